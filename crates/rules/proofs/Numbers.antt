@@ -1,0 +1,144 @@
+-- Laws of what is asked of the numbers from 0 up to n.
+use Prim.Native.Nat.{ℕ, zero, suc, _+_, _*_, _-_, _≤_, _<_, max}
+use mathlib.Core.List.{List, [], _∷_, _++_}
+use mathlib.Core.Bool.{Bool, true, false, cond, _&&_, _||_, not}
+use mathlib.Core.Path.{_≡_, refl, ap, sym, _∙_}
+use native.Mathlib.Numerals.{add-one}
+use native.Mathlib.Omega.{arith}
+use borrow.Author.Tests.{ltb-true, ltb-false, lt-ltb, le-ltb, eqb-true, eqb-false, eq-eqb, ne-eqb}
+use lib.ListN.{length, getD, length-append, List·getD-append}
+use lib.Seq.{getD-at}
+use lib.Dec.{ltb, leb, eqb}
+use Rattle.rules.specs.Numbers.{upTo, sumTo, largestTo, lowest, some, blank}
+
+-- either way of a test
+pub either {ℓ} : {P : Type ℓ} (b : Bool) → (b ≡ true → P) → (b ≡ false → P) → P
+either true yes′ no′ = yes′ refl
+either false yes′ no′ = no′ refl
+
+-- no test goes both ways
+pub never {ℓ} : {P : Type ℓ} (b : Bool) → b ≡ true → b ≡ false → P
+never b y n = let z : _≡_ {A = ℕ} 0 1 = cc in absurd (omega arith)
+
+-- one step of each definition, at the code's i + 1
+pub upTo-step {ℓ} : {A : Type ℓ} (f : ℕ → A) (i : ℕ) → upTo f (i + 1) ≡ upTo f i ++ (f i ∷ [])
+unfolding upTo
+upTo-step f i = rw add-one
+
+pub sumTo-step : (f : ℕ → ℕ) (i : ℕ) → sumTo f (i + 1) ≡ sumTo f i + f i
+unfolding sumTo
+sumTo-step f i = rw add-one
+
+pub largestTo-step : (f : ℕ → ℕ) (i : ℕ) → largestTo f (i + 1) ≡ max (largestTo f i) (f i)
+unfolding largestTo
+largestTo-step f i = rw add-one
+
+-- a list made by upTo has its length and its elements
+pub length-upTo {ℓ} : {A : Type ℓ} (f : ℕ → A) (n : ℕ) → length (upTo f n) ≡ n
+unfolding upTo
+length-upTo f zero = refl
+length-upTo f (suc n) = length-append (upTo f n) (f n ∷ []) ∙ omega (arith, length-upTo f n)
+
+pub getD-upTo {ℓ} : {A : Type ℓ} (f : ℕ → A) (n i : ℕ) (d : A) → i < n → getD (upTo f n) i d ≡ f i
+unfolding upTo
+getD-upTo f zero i d h = absurd (omega arith)
+getD-upTo f (suc n) i d h =
+    either (ltb i n)
+    (λ t. List·getD-append (upTo f n) (f n ∷ []) d i (rw (length-upTo f n) (ltb-true i n t)) ∙ getD-upTo f n i d (ltb-true i n t))
+    (λ t.
+    let e : i ≡ n = omega (arith, ltb-false i n t) in
+    rw e (getD-at (upTo f n) (f n) [] d n (length-upTo f n)))
+
+-- sums of equal numbers are equal
+pub sumTo-ext : (f g : ℕ → ℕ) (n : ℕ) → ((i : ℕ) → i < n → f i ≡ g i) → sumTo f n ≡ sumTo g n
+unfolding sumTo
+sumTo-ext f g zero h = refl
+sumTo-ext f g (suc n) h = rw (sumTo-ext f g n (λ i l. h i (omega arith)), h n (omega arith))
+
+-- lists of equal elements are equal
+pub upTo-ext {ℓ} : {A : Type ℓ} (f g : ℕ → A) (n : ℕ) → ((i : ℕ) → i < n → f i ≡ g i) → upTo f n ≡ upTo g n
+unfolding upTo
+upTo-ext f g zero h = refl
+upTo-ext f g (suc n) h = rw (upTo-ext f g n (λ i l. h i (omega arith)), h n (omega arith))
+
+-- each number is at most the largest
+pub largestTo-most : (f : ℕ → ℕ) (n i : ℕ) → i < n → f i ≤ largestTo f n
+unfolding largestTo
+largestTo-most f zero i h = absurd (omega arith)
+largestTo-most f (suc n) i h =
+    either (ltb i n)
+    (λ t. omega (arith, largestTo-most f n i (ltb-true i n t)))
+    (λ t.
+    let e : i ≡ n = omega (arith, ltb-false i n t) in
+    rw e (omega arith))
+
+-- the lowest is n, or below n and passes the test
+pub lowest-le : (test : ℕ → Bool) (n : ℕ) → lowest test n ≤ n
+unfolding lowest
+lowest-le test zero = omega arith
+lowest-le test (suc n) =
+    either (ltb (lowest test n) n)
+    (λ t. rw t (omega (arith, ltb-true (lowest test n) n t)))
+    (λ t. rw t (either (test n) (λ s. rw s (omega arith)) (λ s. rw s (omega arith))))
+
+-- one more number that fails the test
+pub lowest-more : (test : ℕ → Bool) (i : ℕ) → lowest test i ≡ i → test i ≡ false → lowest test (i + 1) ≡ i + 1
+unfolding lowest
+lowest-more test i all fails = rw (add-one, le-ltb (lowest test i) i (omega arith), fails)
+
+-- the first number that passes the test is the lowest
+pub lowest-here : (test : ℕ → Bool) (i n : ℕ) → lowest test i ≡ i → test i ≡ true → i < n → lowest test n ≡ i
+unfolding lowest
+lowest-here test i zero all passes h = absurd (omega arith)
+lowest-here test i (suc n) all passes h =
+    either (ltb i n)
+    (λ t.
+    let below = lowest-here test i n all passes (ltb-true i n t) in
+    rw (below, t))
+    (λ t.
+    let e : n ≡ i = omega (arith, ltb-false i n t) in
+    rw (e, all, le-ltb i i (omega arith), passes))
+
+-- what the lowest says of the test: it passes there, and at nothing below
+pub lowest-passes : (test : ℕ → Bool) (n : ℕ) → lowest test n < n → test (lowest test n) ≡ true
+unfolding lowest
+lowest-passes test zero h = absurd (omega arith)
+lowest-passes test (suc n) h =
+    either (ltb (lowest test n) n)
+    (λ t. rw t (lowest-passes test n (ltb-true (lowest test n) n t)))
+    (λ t. either (test n) (λ s. rw (t, s) s) (λ s. absurd (omega (arith, rw (t, s) at h))))
+
+pub lowest-below : (test : ℕ → Bool) (n k : ℕ) → k < lowest test n → test k ≡ false
+unfolding lowest
+lowest-below test zero k h = absurd (omega arith)
+lowest-below test (suc n) k h =
+    either (ltb (lowest test n) n)
+    (λ t. lowest-below test n k (rw t at h))
+    (λ t.
+    let all : lowest test n ≡ n = omega (arith, ltb-false (lowest test n) n t, lowest-le test n) in
+    either (test n)
+    (λ s. lowest-below test n k (rw all (rw (t, s) at h)))
+    (λ s.
+    either (ltb k n)
+    (λ l. lowest-below test n k (rw all (ltb-true k n l)))
+    (λ l.
+    let h′ : k < suc n = rw (t, s) at h in
+    let e : k ≡ n = omega (arith, ltb-false k n l) in
+    rw e s)))
+
+-- no number below n passes the test
+pub lowest-none : (test : ℕ → Bool) (n : ℕ) → ((k : ℕ) → k < n → test k ≡ false) → lowest test n ≡ n
+unfolding lowest
+lowest-none test zero h = refl
+lowest-none test (suc n) h =
+    rw (le-ltb (lowest test n) n (omega (arith, lowest-none test n (λ k l. h k (omega arith)))), h n (omega arith))
+
+-- some number passes the test, or none does
+pub some-true : (test : ℕ → Bool) (n k : ℕ) → k < n → test k ≡ true → some test n ≡ true
+some-true test n k h passes =
+    either (ltb (lowest test n) n)
+    (λ t. t)
+    (λ t. never (test k) passes (lowest-below test n k (omega (arith, ltb-false (lowest test n) n t))))
+
+pub some-false : (test : ℕ → Bool) (n : ℕ) → lowest test n ≡ n → some test n ≡ false
+some-false test n e = le-ltb (lowest test n) n (omega arith)

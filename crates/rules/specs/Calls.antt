@@ -1,0 +1,117 @@
+-- What each call returns, and what each lent buffer holds afterwards, for every input.
+use Prim.Native.Nat.{ℕ, zero, suc, _+_, _*_}
+use mathlib.Core.List.{List, [], _∷_, _++_}
+use mathlib.Core.Bool.{Bool, true, false, cond, _&&_, _||_, not}
+use mathlib.Core.Path.{_≡_}
+use lib.ListN.{length, getD, take, drop}
+use lib.Dec.{leb, ltb, eqb}
+use Rattle.rules.specs.declared.Form.{Form}
+use Rattle.rules.specs.declared.Form.the-variants.{Table, Patch}
+use Rattle.rules.specs.declared.Verdict.{Verdict}
+use Rattle.rules.specs.declared.Bounds.{Bounds}
+use Rattle.rules.specs.declared.Patched.{Patched}
+use Rattle.rules.specs.Blocks.{records, recordAt, blocksFor, imageOf}
+use Rattle.rules.specs.Records.{taskCount}
+use Rattle.rules.specs.Preempt.{mapOf}
+use Rattle.rules.specs.Chains.{Figures, FiguresOf, chainBound, chainIds}
+use Rattle.rules.specs.Patches.{outcome, touchedCount, patchedMap}
+use Rattle.rules.specs.Refusals.{accepted, orElse, refuseIf, tableVerdict, patchVerdict, absentRefusal, outcomeRefusal, shortRefusal, passes}
+
+-- a buffer with these values written over its start; what lies beyond them keeps its values
+abbrev pub over : List ℕ → List ℕ → List ℕ
+over values buffer = values ++ drop (length values) buffer
+
+-- what a buffer holds after a call: written where the verdict accepts, as it was where it refuses
+abbrev pub after : Verdict → List ℕ → List ℕ → List ℕ
+after v values buffer = cond (accepted v) (over values buffer) buffer
+
+-- map calls answer 1-8, 11
+unfoldable pub mapVerdict : List ℕ → List ℕ → Verdict
+mapVerdict image rows = orElse (tableVerdict image) (shortRefusal (ltb (length rows) 64))
+
+unfoldable pub mapAfter : List ℕ → List ℕ → List ℕ
+mapAfter image rows = after (mapVerdict image rows) (mapOf (records image)) rows
+
+-- bound calls answer 1-8, 11, 12; up to 11 the verdict does not ask the bounds
+unfoldable pub boundVerdict : List ℕ → List ℕ → List ℕ → Verdict
+boundVerdict image rows ids =
+    orElse (tableVerdict image) (shortRefusal (ltb (length rows) 64 || ltb (length ids) 64))
+
+abbrev pub passesAny : List (List ℕ) → Figures → Bool
+passesAny rs f =
+    passes (chainBound rs f) || (passes (f .path) || (passes (f .transactions) || passes (f .levels)))
+
+abbrev pub boundRefusal : Verdict → Bounds
+boundRefusal v =
+    record {
+      number = v .number;
+      place = v .place;
+      tasks = 0;
+      chain = 0;
+      path = 0;
+      transactions = 0;
+      levels = 0;
+      length = 0;
+    }
+
+abbrev pub boundsFound : List (List ℕ) → Figures → Bounds
+boundsFound rs f =
+    record {
+      number = 0;
+      place = 0;
+      tasks = taskCount rs;
+      chain = chainBound rs f;
+      path = f .path;
+      transactions = f .transactions;
+      levels = f .levels;
+      length = length (f .chain);
+    }
+
+-- the answer and the later ids, where the figures are worked out
+pub record BoundsWorkedOut (rs : List (List ℕ)) (rows ids : List ℕ) (answer : Bounds) (later : List ℕ) : Type 0 where
+  pub figures : Figures
+  pub right : FiguresOf rs rows figures
+  pub passed : passesAny rs figures ≡ true → (answer ≡ boundRefusal (record { number = 12; place = 0 })) × (later ≡ ids)
+  pub found : passesAny rs figures ≡ false → (answer ≡ boundsFound rs figures) × (later ≡ over (chainIds rs figures) ids)
+
+-- a bound call: its answer, and the ids afterwards
+pub record BoundCall (image rows ids : List ℕ) (answer : Bounds) (later : List ℕ) : Type 0 where
+  pub refused :
+      accepted (boundVerdict image rows ids) ≡ false → (answer ≡ boundRefusal (boundVerdict image rows ids)) × (later ≡ ids)
+  pub worked :
+      accepted (boundVerdict image rows ids) ≡ true → BoundsWorkedOut (records image) rows ids answer later
+
+-- a patch call answers 1-8 for the base, then 21-27, 9, 10, 11
+abbrev pub outcomeLength : List ℕ → List ℕ → ℕ
+outcomeLength base patch = 512 * blocksFor (length (outcome (records base) (records patch)))
+
+unfoldable pub patchCallVerdict : List ℕ → List ℕ → List ℕ → List ℕ → List ℕ → Verdict
+patchCallVerdict base patch rows room newRows =
+    orElse (tableVerdict base)
+    (orElse (patchVerdict patch)
+    (orElse (absentRefusal (records base) (records patch))
+    (orElse (outcomeRefusal (records base) (records patch))
+    (shortRefusal (ltb (length rows) 64 || (ltb (length newRows) 64 || ltb (length room) (outcomeLength base patch)))))))
+
+-- the number of touched tasks and the outcome's length in bytes are returned
+abbrev pub patchAnswer : Verdict → List ℕ → List ℕ → Patched
+patchAnswer v base patch =
+    cond (accepted v)
+    (record {
+      number = 0;
+      place = 0;
+      touched = touchedCount (records base) (records patch);
+      length = outcomeLength base patch;
+    })
+    (record { number = v .number; place = v .place; touched = 0; length = 0 })
+
+-- the room for the image and the room for the map afterwards
+abbrev pub roomAfter : Verdict → List ℕ → List ℕ → List ℕ → List ℕ
+roomAfter v base patch room = after v (imageOf Table (outcome (records base) (records patch))) room
+
+abbrev pub patchedAfter : Verdict → List ℕ → List ℕ → List ℕ → List ℕ → List ℕ
+patchedAfter v base patch rows newRows = after v (patchedMap (records base) (records patch) rows) newRows
+
+-- with refusal 9 the offending 32 bytes of the patch image, in every other case none
+abbrev pub offending : Verdict → List ℕ → List ℕ
+offending v patch = cond (eqb (v .number) 9) (recordAt patch (v .place)) []

@@ -1,0 +1,9 @@
+pub mod Numbers
+pub mod Blocks
+pub mod Records
+pub mod Preempt
+pub mod Chains
+pub mod Patches
+pub mod Refusals
+pub mod Calls
+pub mod Runs

@@ -1,0 +1,75 @@
+-- Patches: the outcome of a patch, touched tasks and the carried map, on records.
+use Prim.Native.Nat.{ℕ, zero, suc, _+_}
+use mathlib.Core.List.{List, [], _∷_, _++_, foldr}
+use mathlib.Core.Bool.{Bool, true, false, cond, _&&_, _||_, not}
+use lib.ListN.{length, getD, set}
+use lib.Dec.{leb, ltb, eqb}
+use Rattle.rules.specs.Numbers.{countTo, some}
+use Rattle.rules.specs.Records.{kindOf, numberOf, secondOf, wayOf, key, tasks, taskCount, taskAt, placeOf}
+use Rattle.rules.specs.Preempt.{cell, decided, mapFrom}
+
+-- the same bytes
+unfoldable pub same : List ℕ → List ℕ → Bool
+same [] [] = true
+same [] (b ∷ t) = false
+same (a ∷ s) [] = false
+same (a ∷ s) (b ∷ t) = eqb a b && same s t
+
+-- the record stands in the list byte for byte
+unfoldable pub has : List (List ℕ) → List ℕ → Bool
+has [] r = false
+has (s ∷ rs) r = same s r || has rs r
+
+-- the records that a patch takes out
+unfoldable pub takenOut : List (List ℕ) → List (List ℕ)
+takenOut [] = []
+takenOut (r ∷ rs) = cond (eqb (wayOf r) 0) (r ∷ takenOut rs) (takenOut rs)
+
+-- the records that a patch puts in; put into a table, byte 31 becomes 0
+unfoldable pub putIn : List (List ℕ) → List (List ℕ)
+putIn [] = []
+putIn (r ∷ rs) = cond (eqb (wayOf r) 1) (set r 31 0 ∷ putIn rs) (putIn rs)
+
+-- the list without the records of the other
+unfoldable pub without : List (List ℕ) → List (List ℕ) → List (List ℕ)
+without out [] = []
+without out (r ∷ rs) = cond (has out r) (without out rs) (r ∷ without out rs)
+
+-- a record put into a list in table order
+unfoldable pub put : List ℕ → List (List ℕ) → List (List ℕ)
+put r [] = r ∷ []
+put r (s ∷ rs) = cond (leb (key r) (key s)) (r ∷ s ∷ rs) (s ∷ put r rs)
+
+-- the base's records without those taken out and with those put in, in table order
+abbrev pub outcome : List (List ℕ) → List (List ℕ) → List (List ℕ)
+outcome base patch = foldr put (without (takenOut patch) base) (putIn patch)
+
+-- the patch record is this task's record, names it in a pair, or is its transaction's record
+abbrev pub concerns : List ℕ → List ℕ → Bool
+concerns p task =
+    (eqb (kindOf p) 2 && eqb (numberOf p) (numberOf task))
+    || ((eqb (kindOf p) 3 && (eqb (numberOf p) (numberOf task) || eqb (secondOf p) (numberOf task)))
+    || (eqb (kindOf p) 1 && eqb (numberOf p) (secondOf task)))
+
+-- the task at place i of the outcome is touched
+unfoldable pub touched : List (List ℕ) → List (List ℕ) → ℕ → Bool
+touched base patch i =
+    some (λ k. concerns (getD patch k []) (getD (tasks (outcome base patch)) i [])) (length patch)
+
+abbrev pub touchedCount : List (List ℕ) → List (List ℕ) → ℕ
+touchedCount base patch = countTo (touched base patch) (taskCount (outcome base patch))
+
+-- where the task at place i of the outcome stood in the base
+abbrev pub oldPlace : List (List ℕ) → List (List ℕ) → ℕ → ℕ
+oldPlace base patch i = placeOf (tasks base) (taskAt (outcome base patch) i .id)
+
+-- a cell with neither task touched is the base map's cell at the two ids' old places; any other is decided from the outcome
+unfoldable pub carried : List (List ℕ) → List (List ℕ) → List ℕ → ℕ → ℕ → Bool
+carried base patch rows i j =
+    cond (touched base patch i || touched base patch j)
+    (decided (outcome base patch) i j)
+    (cell rows (oldPlace base patch i) (oldPlace base patch j))
+
+-- the map after a patch
+abbrev pub patchedMap : List (List ℕ) → List (List ℕ) → List ℕ → List ℕ
+patchedMap base patch rows = mapFrom (taskCount (outcome base patch)) (carried base patch rows)

@@ -1,0 +1,56 @@
+-- Who may preempt whom: equations (7) and (8) of the paper, and the map.
+use Prim.Native.Nat.{ℕ, zero, suc, _+_, _*_, _-_, _/_, _%_, _^_}
+use mathlib.Core.List.{List, [], _∷_}
+use mathlib.Core.Bool.{Bool, true, false, cond, _&&_, _||_, not}
+use lib.ListN.{length, getD}
+use lib.Dec.{leb, ltb, eqb}
+use Rattle.rules.specs.declared.Task.{Task}
+use Rattle.rules.specs.Numbers.{upTo, sumTo, some}
+use Rattle.rules.specs.Records.{numberOf, secondOf, sortOf, pairs, taskCount, taskAt, periodIn}
+
+-- (7): from j to i, (O_i - O_j) modulo T, in 0 to T - 1
+abbrev pub distance : ℕ → ℕ → ℕ → ℕ
+distance t oi oj = (oi + (t - oj)) % t
+
+-- they are in different transactions, or J_j > distance, or R_i - O_i > T - distance
+abbrev pub timing : ℕ → Task → Task → Bool
+timing t i j =
+    not (eqb (i .transaction) (j .transaction))
+    || (ltb (distance t (i .offset) (j .offset)) (j .jitter)
+    || ltb (t - distance t (i .offset) (j .offset)) (i .response - i .offset))
+
+-- (8): task i may be preempted by task j, where t is the period of i's transaction and barred says that a pair forbids it
+unfoldable pub mayPreempt : ℕ → Bool → Task → Task → Bool
+mayPreempt t barred i j = ltb (i .priority) (j .priority) && (not barred && timing t i j)
+
+-- the pair names first a, then b
+abbrev pub names : List ℕ → ℕ → ℕ → Bool
+names r a b = eqb (numberOf r) a && eqb (secondOf r) b
+
+-- a one-way pair (a, b), or a precedence pair naming both in either order
+abbrev pub bars : List ℕ → ℕ → ℕ → Bool
+bars r a b = names r a b || (eqb (sortOf r) 1 && names r b a)
+
+-- some pair forbids that the task with id a is preempted by the one with id b
+unfoldable pub barred : List (List ℕ) → ℕ → ℕ → Bool
+barred rs a b = some (λ k. bars (getD (pairs rs) k []) a b) (length (pairs rs))
+
+-- the task at place i may be preempted by the one at place j
+unfoldable pub decided : List (List ℕ) → ℕ → ℕ → Bool
+decided rs i j =
+    mayPreempt (periodIn rs (taskAt rs i .transaction)) (barred rs (taskAt rs i .id) (taskAt rs j .id)) (taskAt rs i) (taskAt rs j)
+
+-- cell j of row i, bit j counted from the lowest
+abbrev pub cell : List ℕ → ℕ → ℕ → Bool
+cell rows i j = eqb (getD rows i 0 / 2 ^ j % 2) 1
+
+-- 64 rows of 64 cells for n tasks; rows and cells at or beyond the number of tasks are 0
+abbrev pub rowFrom : ℕ → (ℕ → Bool) → ℕ
+rowFrom n set = sumTo (λ j. cond (ltb j n && set j) (2 ^ j) 0) 64
+
+unfoldable pub mapFrom : ℕ → (ℕ → ℕ → Bool) → List ℕ
+mapFrom n set = upTo (λ i. cond (ltb i n) (rowFrom n (set i)) 0) 64
+
+-- the map of a table
+abbrev pub mapOf : List (List ℕ) → List ℕ
+mapOf rs = mapFrom (taskCount rs) (decided rs)
