@@ -1,1 +1,4 @@
 pub mod Numbers
+pub mod Bytes
+pub mod Blocks
+pub mod Refusals

@@ -142,3 +142,8 @@ some-true test n k h passes =
 
 pub some-false : (test : ℕ → Bool) (n : ℕ) → lowest test n ≡ n → some test n ≡ false
 some-false test n e = le-ltb (lowest test n) n (omega arith)
+
+-- below 0 nothing passes
+pub lowest-zero : (test : ℕ → Bool) → lowest test 0 ≡ 0
+unfolding lowest
+lowest-zero test = refl

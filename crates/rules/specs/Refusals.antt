@@ -18,9 +18,12 @@ fine = record { number = 0; place = 0 }
 abbrev pub accepted : Verdict → Bool
 accepted v = eqb (v .number) 0
 
+abbrev pub refusal : ℕ → ℕ → Verdict
+refusal n p = record { number = n; place = p }
+
 -- refusal n at place p where the test finds its fault
 abbrev pub refuseIf : ℕ → ℕ → Bool → Verdict
-refuseIf n p fault = cond fault (record { number = n; place = p }) fine
+refuseIf n p fault = cond fault (refusal n p) fine
 
 -- refusal n at the lowest place below count with that fault
 abbrev pub refuseAt : ℕ → (ℕ → Bool) → ℕ → Verdict

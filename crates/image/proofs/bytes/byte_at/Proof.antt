@@ -1,0 +1,24 @@
+use mathlib.Core.Path.{sym}
+use lib.ListN.{List·getD-eq-default}
+use native.Mathlib.Omega.{arith}
+use borrow.Author.Needs.{needs}
+use Rattle.image.proofs.bytes.byte_at.Statement.{statement}
+use Rattle.image.proofs.bytes.byte_at.Tie as tie
+use Rattle.image.proofs.bytes.byte_at.Reads as reads
+use Rattle.image.proofs.bytes.byte_at.Lts as lts
+use Rattle.image.proofs.bytes.wide.Reads as wide-reads
+
+shared-slice-read-wide : tie.Need-shared-slice-read-wide
+shared-slice-read-wide c = search needs
+
+wide-requires : tie.Need-wide-requires
+wide-requires c κs = search needs
+
+returns : tie.Need-returns
+returns c = search needs
+
+returns-2 : tie.Need-returns-2
+returns-2 c = (sym (List·getD-eq-default (c .before .before .args .s .now) 0 (c .if1 .left)), omega arith)
+
+pub byte-at-spec : {M : Type 1} → statement M
+byte-at-spec = tie.close (tie.spec shared-slice-read-wide wide-requires returns returns-2)

@@ -1,0 +1,6 @@
+// Blocks: length, check, header and fill of an image, and where its records stand.
+mod block;
+pub mod bytes;
+mod frame;
+
+pub use frame::frame_verdict;
