@@ -58,7 +58,8 @@ pub fn is_blank(s: &[u8], start: usize, count: usize) -> bool
     true
 }
 
-fn least(a: usize, b: usize) -> usize
+// The lesser of two numbers.
+pub fn least(a: usize, b: usize) -> usize
     ensures { λ r. ⌜ r ≡ min a b ⌝ }
 {
     if a < b { a } else { b }

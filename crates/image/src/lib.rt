@@ -1,6 +1,5 @@
 // Blocks: length, check, header and fill of an image, and where its records stand.
 mod block;
 pub mod bytes;
-mod frame;
-
-pub use frame::frame_verdict;
+pub mod frame;
+pub mod records;

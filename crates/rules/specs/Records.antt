@@ -76,15 +76,18 @@ imageKey r = wayOf r * 1099511627776 + key r
 abbrev pub transactionRight : List ℕ → Bool
 transactionRight r = leb 1 (numberOf r) && between 1 (periodOf r) 1000000000
 
+-- of a task: id, transaction and P
+abbrev pub nameRight : List ℕ → Bool
+nameRight r = leb 1 (numberOf r) && (leb 1 (secondOf r) && between 1 (le2 r 6) 255)
+
+-- of a task: O, J (which may be missing) and R, which is from O on
+abbrev pub timeRight : List ℕ → Bool
+timeRight r =
+    leb (le4 r 8) 999999999
+    && ((leb (le4 r 12) 1000000000 || eqb (le4 r 12) 4294967295) && between (le4 r 8) (le4 r 16) 2000000000)
+
 abbrev pub taskRight : List ℕ → Bool
-taskRight r =
-    leb 1 (numberOf r)
-    && (leb 1 (secondOf r)
-    && (between 1 (le2 r 6) 255
-    && (leb (le4 r 8) 999999999
-    && ((leb (le4 r 12) 1000000000 || eqb (le4 r 12) 4294967295)
-    && (between (le4 r 8) (le4 r 16) 2000000000
-    && leb 1 (le2 r 20))))))
+taskRight r = nameRight r && (timeRight r && leb 1 (le2 r 20))
 
 abbrev pub pairRight : List ℕ → Bool
 pairRight r =

@@ -1,0 +1,72 @@
+use native.Mathlib.Omega.{arith}
+use borrow.Author.Needs.{needs}
+use Rattle.image.proofs.records.record_at.Statement.{statement}
+use Rattle.image.proofs.records.record_at.Tie as tie
+use Rattle.image.proofs.records.record_at.Reads as reads
+use Rattle.image.proofs.records.record_at.Lts as lts
+use Rattle.image.proofs.bytes.least.Reads as least-reads
+
+sub-result : tie.Need-sub-result
+sub-result c = search needs
+
+part-result-start : tie.Need-part-result-start
+part-result-start c = search needs
+
+part-result-end : tie.Need-part-result-end
+part-result-end c = search needs
+
+returns : tie.Need-returns
+returns c = search needs
+
+mul-start : tie.Need-mul-start
+mul-start c = search needs
+
+add-start : tie.Need-add-start
+add-start c = search needs
+
+mul-start-2 : tie.Need-mul-start-2
+mul-start-2 c = search needs
+
+add-start-2 : tie.Need-add-start-2
+add-start-2 c = search needs
+
+least-requires : tie.Need-least-requires
+least-requires c κs = search needs
+
+add-least : tie.Need-add-least
+add-least c = search needs
+
+least-requires-2 : tie.Need-least-requires-2
+least-requires-2 c κs = search needs
+
+sub-result-2 : tie.Need-sub-result-2
+sub-result-2 c = search needs
+
+part-result-start-2 : tie.Need-part-result-start-2
+part-result-start-2 c = search needs
+
+part-result-end-2 : tie.Need-part-result-end-2
+part-result-end-2 c = search needs
+
+returns-2 : tie.Need-returns-2
+returns-2 c = search needs
+
+pub record-at-spec : {M : Type 1} → statement M
+record-at-spec =
+    tie.close
+    (tie.spec
+    sub-result
+    part-result-start
+    part-result-end
+    returns
+    mul-start
+    add-start
+    mul-start-2
+    add-start-2
+    least-requires
+    add-least
+    least-requires-2
+    sub-result-2
+    part-result-start-2
+    part-result-end-2
+    returns-2)

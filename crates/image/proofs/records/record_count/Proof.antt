@@ -1,0 +1,56 @@
+use native.Mathlib.Omega.{arith}
+use borrow.Author.Needs.{needs}
+use Rattle.image.proofs.records.record_count.Statement.{statement}
+use Rattle.image.proofs.records.record_count.Tie as tie
+use Rattle.image.proofs.records.record_count.Reads as reads
+use Rattle.image.proofs.records.record_count.Lts as lts
+use Rattle.image.proofs.bytes.byte_at.Reads as byte-at-reads
+
+byte-at-requires : tie.Need-byte-at-requires
+byte-at-requires c κs = search needs
+
+cast-result : tie.Need-cast-result
+cast-result c = search needs
+
+returns : tie.Need-returns
+returns c = search needs
+
+sub-full : tie.Need-sub-full
+sub-full c = search needs
+
+mul-byte-at : tie.Need-mul-byte-at
+mul-byte-at c = search needs
+
+add-byte-at : tie.Need-add-byte-at
+add-byte-at c = search needs
+
+byte-at-requires-2 : tie.Need-byte-at-requires-2
+byte-at-requires-2 c κs = search needs
+
+cast-held : tie.Need-cast-held
+cast-held c = search needs
+
+mul-result : tie.Need-mul-result
+mul-result c = search needs
+
+add-result : tie.Need-add-result
+add-result c = search needs
+
+returns-2 : tie.Need-returns-2
+returns-2 c = search needs
+
+pub record-count-spec : {M : Type 1} → statement M
+record-count-spec =
+    tie.close
+    (tie.spec
+    byte-at-requires
+    cast-result
+    returns
+    sub-full
+    mul-byte-at
+    add-byte-at
+    byte-at-requires-2
+    cast-held
+    mul-result
+    add-result
+    returns-2)

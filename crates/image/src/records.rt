@@ -1,0 +1,34 @@
+// Where an image's records stand: one after another, across blocks.
+ghost use mathlib.Core.Path.{_≡_};
+ghost use Prim.Native.Nat.{min};
+ghost use Rattle.rules.specs.Blocks.{recordAt, recordCount};
+use crate::bytes::byte_at;
+use crate::bytes::least;
+
+// How many records an image holds, by the count of its last block.
+pub fn record_count(image: &[u8]) -> usize
+    ensures { λ r. ⌜ r ≡ recordCount (now (image .entry)) ⌝ }
+{
+    let total = image.len() / rules::BLOCK_BYTES;
+    if total == 0 {
+        return byte_at(image, 4) as usize;
+    }
+    let full = total - 1;
+    let held = byte_at(image, rules::BLOCK_BYTES * full + 4) as usize;
+    rules::RECORDS_PER_BLOCK * full + held
+}
+
+// The 32 bytes of record k, as a part of the image. Past the image's end there are fewer or none.
+pub fn record_at(image: &[u8], k: usize) -> &[u8]
+    ensures { λ r. ⌜ now r ≡ recordAt (now (image .entry)) k ⌝ }
+{
+    let length = image.len();
+    let block = k / rules::RECORDS_PER_BLOCK;
+    if length / rules::BLOCK_BYTES < block {
+        return &image[length..length];
+    }
+    let start = rules::BLOCK_BYTES * block + 8 + rules::RECORD_BYTES * (k % rules::RECORDS_PER_BLOCK);
+    let from = least(start, length);
+    let to = least(start + rules::RECORD_BYTES, length);
+    &image[from..to]
+}

@@ -1,0 +1,10 @@
+// Records: their form, order, ranges and counts, what they refer to, and the verdict on a whole image.
+
+mod form;
+mod order;
+mod range;
+
+
+
+
+

@@ -1,0 +1,120 @@
+// Refusal 6: a field out of the range that needs no other record.
+ghost use mathlib.Core.Path.{_≡_};
+ghost use mathlib.Core.List.{[]};
+ghost use lib.ListN.{getD};
+ghost use Rattle.rules.specs.Numbers.{lowest};
+ghost use Rattle.rules.specs.Blocks.{records, recordCount};
+ghost use Rattle.rules.specs.Records.{transactionRight, nameRight, timeRight, taskRight, pairRight, rangeWrong};
+use image::bytes::byte_at;
+use image::bytes::four_bytes;
+use image::bytes::two_bytes;
+use image::records::record_at;
+use image::records::record_count;
+
+fn is_transaction_right(record: &[u8]) -> bool
+    ensures { λ r. ⌜ r ≡ transactionRight (now (record .entry)) ⌝ }
+{
+    if two_bytes(record, 2) < 1 {
+        return false;
+    }
+    let period = four_bytes(record, 8);
+    if period < 1 {
+        return false;
+    }
+    period <= 1_000_000_000
+}
+
+// Whether id, transaction and priority of a task are in range.
+fn is_name_right(record: &[u8]) -> bool
+    ensures { λ r. ⌜ r ≡ nameRight (now (record .entry)) ⌝ }
+{
+    if two_bytes(record, 2) < 1 {
+        return false;
+    }
+    if two_bytes(record, 4) < 1 {
+        return false;
+    }
+    let priority = two_bytes(record, 6);
+    if priority < 1 {
+        return false;
+    }
+    priority <= 255
+}
+
+// Whether offset, jitter and response of a task are in range.
+fn is_time_right(record: &[u8]) -> bool
+    ensures { λ r. ⌜ r ≡ timeRight (now (record .entry)) ⌝ }
+{
+    let offset = four_bytes(record, 8);
+    if 999_999_999 < offset {
+        return false;
+    }
+    let jitter = four_bytes(record, 12);
+    if 1_000_000_000 < jitter {
+        if jitter != 4_294_967_295 {
+            return false;
+        }
+    }
+    let response = four_bytes(record, 16);
+    if response < offset {
+        return false;
+    }
+    response <= 2_000_000_000
+}
+
+fn is_task_right(record: &[u8]) -> bool
+    ensures { λ r. ⌜ r ≡ taskRight (now (record .entry)) ⌝ }
+{
+    if !is_name_right(record) {
+        return false;
+    }
+    if !is_time_right(record) {
+        return false;
+    }
+    1 <= two_bytes(record, 20)
+}
+
+fn is_pair_right(record: &[u8]) -> bool
+    ensures { λ r. ⌜ r ≡ pairRight (now (record .entry)) ⌝ }
+{
+    if 1 < byte_at(record, 1) {
+        return false;
+    }
+    let first = two_bytes(record, 2);
+    if first < 1 {
+        return false;
+    }
+    let second = two_bytes(record, 4);
+    if second < 1 {
+        return false;
+    }
+    first != second
+}
+
+fn is_range_wrong(record: &[u8]) -> bool
+    ensures { λ r. ⌜ r ≡ rangeWrong (now (record .entry)) ⌝ }
+{
+    let kind = byte_at(record, 0);
+    if kind == 1 {
+        return !is_transaction_right(record);
+    }
+    if kind == 2 {
+        return !is_task_right(record);
+    }
+    !is_pair_right(record)
+}
+
+// The first record with a field out of range, or the number of records.
+pub fn first_wrong_range(image: &[u8]) -> usize
+    ensures { λ r. ⌜ r ≡ lowest (λ k. rangeWrong (getD (records (now (image .entry))) k [])) (recordCount (now (image .entry))) ⌝ }
+{
+    let count = record_count(image);
+    let mut k: usize = 0;
+    while k < count {
+        if is_range_wrong(record_at(image, k)) {
+            return k;
+        }
+        k += 1;
+    }
+    k
+}
