@@ -1,0 +1,2 @@
+-- Laws of images: lists cut into parts, the image of a list of records, and what an accepted frame says.
+pub mod Parts
