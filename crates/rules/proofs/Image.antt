@@ -2,3 +2,5 @@
 pub mod Parts
 pub mod Verdicts
 pub mod Frame
+pub mod Block
+pub mod Written

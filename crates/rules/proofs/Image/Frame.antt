@@ -50,10 +50,10 @@ pub record Header (form : Form) (total b : ℕ) (block : List ℕ) : Type 0 wher
   pub gap : (k : ℕ) → k < 3 → getD block (5 + k) 0 ≡ 0
   pub fill : (k : ℕ) → k < 502 - 32 * getD block 4 0 → getD block (8 + 32 * getD block 4 0 + k) 0 ≡ 0
 
-pub header-says : (form : Form) (total b : ℕ) (block : List ℕ) → headerWrong form total b block ≡ false
+pub header-of : (form : Form) (total b : ℕ) (block : List ℕ) → headerWrong form total b block ≡ false
     → Header form total b block
 unfolding headerWrong
-header-says form total b block h =
+header-of form total b block h =
     let no₂ = neither-second (markWrong form block) _ h in
     let no₃ = neither-second (not (eqb (getD block 2 0) b)) _ no₂ in
     let no₄ = neither-second (not (eqb (getD block 3 0) total)) _ no₃ in
@@ -71,10 +71,10 @@ header-says form total b block h =
           (not-false (blank block (8 + 32 * getD block 4 0) (502 - 32 * getD block 4 0)) (neither-second (not (blank block 5 3)) _ no₅));
     }
 
-pub says-header : (form : Form) (total b : ℕ) (block : List ℕ) → Header form total b block
+pub header-not-wrong : (form : Form) (total b : ℕ) (block : List ℕ) → Header form total b block
     → headerWrong form total b block ≡ false
 unfolding headerWrong
-says-header form total b block h =
+header-not-wrong form total b block h =
     rw (
       differ-not (getD block 0 0) (getD (mark form) 0 0) (h .first-mark),
       differ-not (getD block 1 0) (getD (mark form) 1 0) (h .second-mark),
@@ -112,9 +112,9 @@ pub record Frame (form : Form) (image : List ℕ) : Type 0 where
   pub checks : (b : ℕ) → b < blockCount image → checkWrong (blockAt image b) ≡ false
   pub headers : (b : ℕ) → b < blockCount image → Header form (blockCount image) b (blockAt image b)
 
-pub frame-says : (form : Form) (image : List ℕ) → accepted (frameVerdict form image) ≡ true → Frame form image
+pub frame-of : (form : Form) (image : List ℕ) → accepted (frameVerdict form image) ≡ true → Frame form image
 unfolding frameVerdict
-frame-says form image h =
+frame-of form image h =
     let number : (n : ℕ) → 0 < n → 0 < numbered form n = numbered-some form in
     let rest = accepted-second (lengthRefusal form image) (orElse (checkRefusal form image) (headerRefusal form image)) h in
     let right : lengthWrong form image ≡ false =
@@ -133,14 +133,14 @@ frame-says form image h =
           (accepted-first (checkRefusal form image) (headerRefusal form image) rest);
       headers =
           λ b l.
-          header-says form (blockCount image) b (blockAt image b)
+          header-of form (blockCount image) b (blockAt image b)
           (no-fault-at (numbered form 3) (λ j. headerWrong form (blockCount image) j (blockAt image j)) (blockCount image) (number 3 (omega arith))
           (accepted-second (checkRefusal form image) (headerRefusal form image) rest) b l);
     }
 
-pub says-frame : (form : Form) (image : List ℕ) → Frame form image → frameVerdict form image ≡ fine
+pub frame-fine : (form : Form) (image : List ℕ) → Frame form image → frameVerdict form image ≡ fine
 unfolding frameVerdict
-says-frame form image f =
+frame-fine form image f =
     fine-both (lengthRefusal form image) (orElse (checkRefusal form image) (headerRefusal form image))
     (fine-if (numbered form 1) 0 (lengthWrong form image)
     (neither (eqb (length image) 0) _ (ne-eqb (length image) 0 (λ e. omega (arith, f .whole, f .some-block)))
@@ -150,7 +150,7 @@ says-frame form image f =
     (fine-both (checkRefusal form image) (headerRefusal form image)
     (fine-at (numbered form 2) (λ b. checkWrong (blockAt image b)) (blockCount image) (f .checks))
     (fine-at (numbered form 3) (λ b. headerWrong form (blockCount image) b (blockAt image b)) (blockCount image)
-    (λ b l. says-header form (blockCount image) b (blockAt image b) (f .headers b l))))
+    (λ b l. header-not-wrong form (blockCount image) b (blockAt image b) (f .headers b l))))
 
 -- byte k of block b is a byte of the image
 pub byte-of-block : (image : List ℕ) (b k : ℕ) → k < 512 → getD (blockAt image b) k 0 ≡ getD image (512 * b + k) 0
