@@ -1,6 +1,7 @@
--- Laws of images: lists cut into parts, the image of a list of records, and what an accepted frame says.
+-- Laws of images: lists cut into parts, what an accepted frame says, the image of a list of records, and the records of an image.
 pub mod Parts
 pub mod Verdicts
 pub mod Frame
 pub mod Block
 pub mod Written
+pub mod Read

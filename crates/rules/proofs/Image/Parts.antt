@@ -70,6 +70,11 @@ part-front (suc n) m zero l h = absurd (omega arith)
 part-front (suc n) m (suc w) [] h = refl
 part-front (suc n) m (suc w) (x ∷ xs) h = part-front n m w xs (omega arith)
 
+-- the front of a list, cut into three
+pub three-parts : (n m k : ℕ) (l : List ℕ)
+    → take (n + (m + k)) l ≡ take n l ++ (take m (drop n l) ++ take k (drop (n + m) l))
+three-parts n m k l = rw (take-add, take-add m k (drop n l), drop-drop m n l)
+
 -- the front of a list, byte by byte
 pub front-bytes : (l : List ℕ) (n : ℕ) → n ≤ length l → take n l ≡ upTo (λ k. getD l k 0) n
 front-bytes l n h =
@@ -86,3 +91,18 @@ zero-part l m n h zeros =
     (λ k b.
     let b′ : k < n = omega (arith, simp length-take at b) in
     rw (getD-take n (drop m l) k 0 b′, getD-drop, getD-replicate {A = ℕ} n k 0 0 b′, zeros k b′))
+
+-- a part of a list made by upTo
+pub part-upTo {ℓ} : {A : Type ℓ} (f : ℕ → A) (n m count : ℕ)
+    → take n (drop m (upTo f count)) ≡ upTo (λ k. f (m + k)) (min n (count - m))
+part-upTo f n m count =
+    ext-getD (f 0) (take n (drop m (upTo f count))) (upTo (λ k. f (m + k)) (min n (count - m)))
+    (simp (length-take, length-drop, length-upTo))
+    (λ k b.
+    let b′ : k < min n (count - m) = simp (length-take, length-drop, length-upTo) at b in
+    rw (
+      getD-take n (drop m (upTo f count)) k (f 0) (omega arith),
+      getD-drop,
+      getD-upTo f count (m + k) (f 0) (omega arith),
+      getD-upTo (λ j. f (m + j)) (min n (count - m)) k (f 0) b′,
+    ))
