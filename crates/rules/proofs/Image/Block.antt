@@ -1,21 +1,19 @@
 -- Laws of a written block: its length, header, records, zero fill and check.
-use Prim.Native.Nat.{ℕ, zero, suc, _+_, _*_, _-_, _/_, _%_, _≤_, _<_, min, max}
+use Prim.Native.Nat.{ℕ, zero, suc, _+_, _*_, _-_, _/_, _%_, _≤_, _<_}
 use mathlib.Core.List.{List, [], _∷_, _++_, append-assoc}
-use mathlib.Core.Bool.{Bool, true, false}
-use mathlib.Core.Path.{_≡_, refl, ap, sym, _∙_}
+use mathlib.Core.Bool.{true, false}
+use mathlib.Core.Path.{_≡_, refl, _∙_}
 use native.Mathlib.Nat.{add-assoc}
 use native.Mathlib.Omega.{arith}
-use borrow.Author.Tests.{eq-eqb}
 use lib.ListN.{length, getD, take, drop, replicate, length-append, length-replicate, length-drop, getD-replicate, List·getD-append}
 use lib.Seq.{getD-append-add, drop-append-add, drop-append-le, take-append-le}
-use lib.Dec.{eqb}
 use Rattle.rules.specs.declared.Form.{Form}
 use Rattle.rules.specs.declared.Form.the-variants.{Table, Patch}
-use Rattle.rules.specs.Numbers.{le2, sumTo}
+use Rattle.rules.specs.Numbers.{le2}
 use Rattle.rules.specs.Blocks.{mark, checkOf, checkWrong, countRight, joined, bodyOf, withCheck}
 use Rattle.rules.proofs.Numbers.{sumTo-ext}
 use Rattle.rules.proofs.Image.Parts.{Records, length-joined, part-joined}
-use Rattle.rules.proofs.Image.Verdicts.{not-fails}
+use Rattle.rules.proofs.Image.Verdicts.{not-different}
 use Rattle.rules.proofs.Image.Frame.{Header}
 
 -- what stands behind a list of known length
@@ -35,25 +33,27 @@ pub check-small : (s : List ℕ) → checkOf s < 65521
 unfolding checkOf
 check-small s = omega arith
 
--- 510 bytes with their check behind them are a block, and its check is right
+-- 510 bytes with their check behind them
 module _ (body : List ℕ) (e : length body ≡ 510) where
+  -- the block is 512 bytes long
   pub length-withCheck : length (withCheck body) ≡ 512
   length-withCheck = rw (length-append, e)
 
+  -- its check is that of its first 510 bytes
   pub check-withCheck : checkOf (withCheck body) ≡ checkOf body
   check-withCheck =
       check-front (withCheck body) body
       (λ i l. List·getD-append body (checkOf body % 256 ∷ checkOf body / 256 ∷ []) 0 i (omega arith))
 
+  -- which is what the last two bytes say
   pub withCheck-right : checkWrong (withCheck body) ≡ false
   withCheck-right =
-      not-fails (eqb (le2 (withCheck body) 510) (checkOf (withCheck body)))
-      (eq-eqb (le2 (withCheck body) 510) (checkOf (withCheck body))
+      not-different (le2 (withCheck body) 510) (checkOf (withCheck body))
       (rw (
         check-withCheck,
         behind-byte body (checkOf body % 256 ∷ checkOf body / 256 ∷ []) 510 0 e,
         behind-byte body (checkOf body % 256 ∷ checkOf body / 256 ∷ []) 510 1 e,
-      ) (omega arith)))
+      ) (omega arith))
 
 -- the eight bytes in front of the records
 abbrev pub headerBytes : Form → ℕ → ℕ → ℕ → List ℕ
@@ -101,15 +101,17 @@ header-written form total b count rest right zeros =
 
 -- block b of total that holds these records
 module _ (form : Form) (total b : ℕ) (rs : List (List ℕ)) (records : Records rs) (few : length rs ≤ 15) where
+  -- its body is 510 bytes long
   pub length-bodyOf : length (bodyOf form total b rs) ≡ 510
   length-bodyOf =
       rw body-parts (simp (length-append, length-replicate, length-joined 32 rs records) (omega arith))
 
-  -- its four parts: header, records, fill, check
+  -- it is header, records, fill and check
   block-parts : (check : List ℕ) → bodyOf form total b rs ++ check
       ≡ headerBytes form total b (length rs) ++ (joined rs ++ (replicate (502 - 32 * length rs) 0 ++ check))
   block-parts check = rw body-parts (simp append-assoc)
 
+  -- its record k is record k of the list
   pub block-record : (check : List ℕ) (k : ℕ) → k < length rs → take 32 (drop (8 + 32 * k) (bodyOf form total b rs ++ check)) ≡ getD rs k []
   block-record check k l =
       let rest = replicate (502 - 32 * length rs) 0 ++ check in
@@ -122,6 +124,7 @@ module _ (form : Form) (total b : ℕ) (rs : List (List ℕ)) (records : Records
         take-append-le 32 (drop (32 * k) (joined rs)) rest longer,
       ) (part-joined 32 rs k records l)
 
+  -- its header is right, where the count is
   pub block-header : (check : List ℕ) → countRight total b (length rs) ≡ true → Header form total b (bodyOf form total b rs ++ check)
   block-header check right =
       rw (block-parts check)

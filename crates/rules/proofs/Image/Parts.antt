@@ -1,11 +1,11 @@
 -- Lists cut into parts of one length, and joined again.
 use Prim.Native.Nat.{ℕ, zero, suc, _+_, _*_, _-_, _≤_, _<_, min}
 use mathlib.Core.List.{List, [], _∷_, _++_, append-assoc, append-nil}
-use mathlib.Core.Path.{_≡_, refl, ap, sym, _∙_}
-use native.Mathlib.Nat.{mul-zero, mul-suc, zero-mul, suc-mul}
+use mathlib.Core.Path.{_≡_, refl, sym}
+use native.Mathlib.Nat.{mul-zero, mul-suc}
 use native.Mathlib.Omega.{arith}
 use lib.ListN.{length, getD, take, drop, replicate, length-append, length-take, length-drop, length-replicate, getD-replicate}
-use lib.Seq.{take-at, take-all, take-add, take-take, take-nil, drop-nil, drop-drop, drop-append-add, getD-take, getD-drop, ext-getD}
+use lib.Seq.{take-at, take-add, take-take, drop-drop, drop-append-add, getD-take, getD-drop, ext-getD}
 use Rattle.rules.specs.Numbers.{upTo}
 use Rattle.rules.specs.Blocks.{joined}
 use Rattle.rules.proofs.Numbers.{length-upTo, getD-upTo}

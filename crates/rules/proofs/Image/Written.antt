@@ -1,32 +1,21 @@
 -- Laws of the image of a list of records: its length, its blocks, its records, and its frame.
-use Prim.Native.Nat.{ℕ, zero, suc, _+_, _*_, _-_, _/_, _%_, _≤_, _<_, min, max}
-use mathlib.Core.List.{List, [], _∷_, _++_}
-use mathlib.Core.Bool.{Bool, true, false, cond, _&&_, _||_}
-use mathlib.Core.Path.{_≡_, refl, ap, sym, _∙_}
-use native.Mathlib.Nat.{add-assoc}
+use Prim.Native.Nat.{ℕ, _+_, _*_, _-_, _/_, _%_, _≤_, _<_, min}
+use mathlib.Core.List.{List, []}
+use mathlib.Core.Bool.{true, false}
+use mathlib.Core.Path.{_≡_, _∙_}
 use native.Mathlib.Omega.{arith}
 use borrow.Author.Tests.{eqb-true, eqb-false, eq-eqb, leb-false, le-leb}
 use lib.ListN.{length, getD, take, drop, length-take, length-drop}
-use lib.Seq.{getD-take, getD-drop, drop-drop, ext-getD}
+use lib.Seq.{getD-take, getD-drop, ext-getD}
 use lib.Dec.{eqb, leb}
 use Rattle.rules.specs.declared.Form.{Form}
 use Rattle.rules.specs.Numbers.{upTo}
-use Rattle.rules.specs.Blocks.{mostBlocks, blockCount, blockAt, checkWrong, checkOf, countRight, recordAt, recordCount, records, blocksFor, joined, bodyOf, withCheck, blockOf, imageOf}
+use Rattle.rules.specs.Blocks.{mostBlocks, blockCount, blockAt, checkWrong, countRight, recordAt, recordCount, records, blocksFor, bodyOf, blockOf, imageOf}
 use Rattle.rules.specs.Refusals.{fine, frameVerdict}
 use Rattle.rules.proofs.Numbers.{either, length-upTo, getD-upTo}
-use Rattle.rules.proofs.Image.Parts.{Records, sized-part, sized-upTo, length-joined, part-joined, part-front}
-use Rattle.rules.proofs.Image.Frame.{Header, Frame, frame-fine, byte-of-block}
+use Rattle.rules.proofs.Image.Parts.{Records, sized-part, sized-upTo, length-joined, part-joined}
+use Rattle.rules.proofs.Image.Frame.{Header, frame-fine, byte-of-block, record-of-block}
 use Rattle.rules.proofs.Image.Block.{length-withCheck, withCheck-right, length-bodyOf, block-record, block-header, count-byte}
-
--- a record is read from the block that it is in
-pub record-of-block : (image : List ℕ) (k : ℕ)
-    → recordAt image k ≡ take 32 (drop (8 + 32 * (k % 15)) (blockAt image (k / 15)))
-record-of-block image k =
-    rw (
-      part-front (8 + 32 * (k % 15)) 32 512 (drop (512 * (k / 15)) image) (omega arith),
-      drop-drop (8 + 32 * (k % 15)) (512 * (k / 15)) image,
-      add-assoc,
-    )
 
 -- the count of records that falls to block b of the blocks for n records is right
 pub count-right : (n b : ℕ) → b < blocksFor n → countRight (blocksFor n) b (min 15 (n - 15 * b)) ≡ true
@@ -49,16 +38,20 @@ recordsOf rs b = take 15 (drop (15 * b) rs)
 pub length-recordsOf : (rs : List (List ℕ)) (b : ℕ) → length (recordsOf rs b) ≡ min 15 (length rs - 15 * b)
 length-recordsOf rs b = rw (length-take, length-drop)
 
+-- the image of these records
 module _ (form : Form) (rs : List (List ℕ)) (sized : Records rs) where
+  -- at most 15 of them are in one block
   few : (b : ℕ) → length (recordsOf rs b) ≤ 15
   few b = rw length-recordsOf (omega arith)
 
+  -- each block is 512 bytes long
   pub length-blockOf : (b : ℕ) → length (blockOf form rs b) ≡ 512
   unfolding blockOf
   length-blockOf b =
       length-withCheck (bodyOf form (blocksFor (length rs)) b (recordsOf rs b))
       (length-bodyOf form (blocksFor (length rs)) b (recordsOf rs b) (sized-part 32 15 (15 * b) rs sized) (few b))
 
+  -- the image is as long as its blocks
   pub length-imageOf : length (imageOf form rs) ≡ 512 * blocksFor (length rs)
   length-imageOf =
       rw (
@@ -67,37 +60,44 @@ module _ (form : Form) (rs : List (List ℕ)) (sized : Records rs) where
         length-upTo,
       )
 
+  -- it has as many blocks as its records need
   pub blockCount-imageOf : blockCount (imageOf form rs) ≡ blocksFor (length rs)
   blockCount-imageOf = omega (arith, length-imageOf)
 
+  -- block b of the image is the block written there
   pub blockAt-imageOf : (b : ℕ) → b < blocksFor (length rs) → blockAt (imageOf form rs) b ≡ blockOf form rs b
   blockAt-imageOf b l =
       part-joined 512 (upTo (blockOf form rs) (blocksFor (length rs))) b
       (sized-upTo 512 (blockOf form rs) (blocksFor (length rs)) (λ j m. length-blockOf j)) (rw length-upTo l)
       ∙ getD-upTo (blockOf form rs) (blocksFor (length rs)) b [] l
 
+  -- its check is right
   pub check-blockOf : (b : ℕ) → checkWrong (blockOf form rs b) ≡ false
   unfolding blockOf
   check-blockOf b =
       withCheck-right (bodyOf form (blocksFor (length rs)) b (recordsOf rs b))
       (length-bodyOf form (blocksFor (length rs)) b (recordsOf rs b) (sized-part 32 15 (15 * b) rs sized) (few b))
 
+  -- its header is right
   pub header-blockOf : (b : ℕ) → b < blocksFor (length rs) → Header form (blocksFor (length rs)) b (blockOf form rs b)
   unfolding blockOf
   header-blockOf b l =
       block-header form (blocksFor (length rs)) b (recordsOf rs b) (sized-part 32 15 (15 * b) rs sized) (few b) _
       (rw length-recordsOf (count-right (length rs) b l))
 
+  -- its count byte is the number of its records
   pub count-blockOf : (b : ℕ) → getD (blockOf form rs b) 4 0 ≡ length (recordsOf rs b)
   unfolding blockOf
   count-blockOf b = count-byte form (blocksFor (length rs)) b (recordsOf rs b) _
 
+  -- its records are the list's
   pub record-blockOf : (b k : ℕ) → k < length (recordsOf rs b)
       → take 32 (drop (8 + 32 * k) (blockOf form rs b)) ≡ getD (recordsOf rs b) k []
   unfolding blockOf
   record-blockOf b =
       block-record form (blocksFor (length rs)) b (recordsOf rs b) (sized-part 32 15 (15 * b) rs sized) (few b) _
 
+  -- record k of the image is record k of the list
   pub recordAt-imageOf : (k : ℕ) → k < length rs → recordAt (imageOf form rs) k ≡ getD rs k []
   recordAt-imageOf k l =
       let there : k % 15 < length (recordsOf rs (k / 15)) = rw length-recordsOf (omega arith) in
@@ -111,6 +111,7 @@ module _ (form : Form) (rs : List (List ℕ)) (sized : Records rs) where
         place,
       )
 
+  -- the image has as many records as the list
   pub recordCount-imageOf : recordCount (imageOf form rs) ≡ length rs
   recordCount-imageOf =
       let b = blocksFor (length rs) - 1 in
