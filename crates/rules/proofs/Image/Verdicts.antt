@@ -21,7 +21,7 @@ pub neither-second : (a b : Bool) → (a || b) ≡ false → b ≡ false
 neither-second true b h = never true refl h
 neither-second false b h = h
 
--- and where neither does, neither holds
+-- and where each of two fails, neither of them holds
 pub neither : (a b : Bool) → a ≡ false → b ≡ false → (a || b) ≡ false
 neither a b p q = rw (p, q)
 
