@@ -40,9 +40,9 @@ blank-false s start count k h other =
     ap not (some-true (λ k. not (eqb (getD s (start + k) 0) 0)) count k h (ap not (ne-eqb (getD s (start + k) 0) 0 other)))
 
 -- blank bytes are zero
-pub blank-zero : (s : List ℕ) (start count k : ℕ) → blank s start count ≡ true → k < count → getD s (start + k) 0 ≡ 0
+pub blank-zero : (s : List ℕ) (start count : ℕ) → blank s start count ≡ true → (k : ℕ) → k < count → getD s (start + k) 0 ≡ 0
 unfolding blank
-blank-zero s start count k b h =
+blank-zero s start count b k h =
     let faults : ℕ → Bool = λ k. not (eqb (getD s (start + k) 0) 0) in
     let none = ltb-false (lowest faults count) count (not-true (some faults count) b) in
     eqb-true (getD s (start + k) 0) 0 (not-false (eqb (getD s (start + k) 0) 0) (lowest-below faults count k (omega arith)))

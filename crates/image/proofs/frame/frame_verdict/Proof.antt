@@ -5,7 +5,7 @@ use Rattle.rules.specs.Blocks.{blockAt, blockCount, checkWrong, headerWrong}
 use Rattle.rules.specs.Refusals.{frameVerdict, numbered}
 use Rattle.rules.proofs.Numbers.{lowest-le}
 use Rattle.rules.proofs.Blocks.{length-right}
-use Rattle.rules.proofs.Refusals.{orElse-refusal, numbered-above, refuseAt-found, refuseAt-none}
+use Rattle.rules.proofs.Refusals.{orElse-refusal, numbered-some, refuseAt-found, refuseAt-none}
 use native.Mathlib.Omega.{arith}
 use borrow.Author.Needs.{needs}
 use Rattle.image.proofs.frame.frame_verdict.Statement.{statement}
@@ -28,7 +28,7 @@ unfolding frameVerdict
 returns c =
     let form = c .before .before .before .before .args .form in
     let image = c .before .before .before .before .args .image .now in
-    rw (← c .before .before .is-length-wrong .ensures, c .before .if1 .taken, orElse-refusal (numbered form 1) 0 _ (numbered-above form 1 (omega arith))) (c .refusal .ensures)
+    rw (← c .before .before .is-length-wrong .ensures, c .before .if1 .taken, orElse-refusal (numbered form 1) 0 _ (numbered-some form 1 (omega arith))) (c .refusal .ensures)
 
 first-wrong-check-requires : tie.Need-first-wrong-check-requires
 first-wrong-check-requires c κs = search needs
@@ -46,7 +46,7 @@ returns-2 c =
     let image = c .before .before .before .before .before .before .args .image .now in
     let faults : ℕ → Bool = λ b. checkWrong (blockAt image b) in
     let found = refuseAt-found (numbered form 2) faults (blockCount image) (c .before .before .first-wrong-check .result) (sym (c .before .before .first-wrong-check .ensures)) (c .before .if2 .taken) in
-    rw (← c .before .before .before .before .is-length-wrong .ensures, c .before .before .before .if1 .left, found, orElse-refusal (numbered form 2) (c .before .before .first-wrong-check .result) _ (numbered-above form 2 (omega arith))) (c .refusal2 .ensures)
+    rw (← c .before .before .before .before .is-length-wrong .ensures, c .before .before .before .if1 .left, found, orElse-refusal (numbered form 2) (c .before .before .first-wrong-check .result) _ (numbered-some form 2 (omega arith))) (c .refusal2 .ensures)
 
 first-wrong-header-requires : tie.Need-first-wrong-header-requires
 first-wrong-header-requires c κs = (length-right (c .before .before .before .before .before .args .form) (c .before .before .before .before .before .args .image .now) (sym (c .before .before .before .is-length-wrong .ensures) ∙ c .before .before .if1 .left)) .few-at-all

@@ -1,0 +1,40 @@
+-- Laws of tests: what it says that two of them hold, or that neither does.
+use Prim.Native.Nat.{ℕ}
+use mathlib.Core.Bool.{Bool, true, false, _&&_, _||_, not}
+use mathlib.Core.Path.{_≡_, refl}
+use borrow.Author.Tests.{eqb-true, eq-eqb, not-false}
+use lib.Dec.{eqb}
+use Rattle.rules.proofs.Numbers.{never}
+
+-- where neither of two holds, the first does not, and the second does not
+pub neither-first : (a b : Bool) → (a || b) ≡ false → a ≡ false
+neither-first true b h = h
+neither-first false b h = refl
+
+pub neither-second : (a b : Bool) → (a || b) ≡ false → b ≡ false
+neither-second true b h = never true refl h
+neither-second false b h = h
+
+-- and where each of two fails, neither of them holds
+pub neither : (a b : Bool) → a ≡ false → b ≡ false → (a || b) ≡ false
+neither a b p q = rw (p, q)
+
+-- where both of two hold, the first does, and the second does
+pub both-first : (a b : Bool) → (a && b) ≡ true → a ≡ true
+both-first true b h = refl
+both-first false b h = h
+
+pub both-second : (a b : Bool) → (a && b) ≡ true → b ≡ true
+both-second true b h = h
+both-second false b h = never false h refl
+
+-- a test that holds does not fail
+pub not-fails : (b : Bool) → b ≡ true → not b ≡ false
+not-fails b h = rw h
+
+-- two numbers of which a test does not say that they differ are equal, and the other way round
+pub same-numbers : (x y : ℕ) → not (eqb x y) ≡ false → x ≡ y
+same-numbers x y h = eqb-true x y (not-false (eqb x y) h)
+
+pub not-different : (x y : ℕ) → x ≡ y → not (eqb x y) ≡ false
+not-different x y h = not-fails (eqb x y) (eq-eqb x y h)
