@@ -27,7 +27,9 @@ pub fn record_at(image: &[u8], k: usize) -> &[u8]
     if length / rules::BLOCK_BYTES < block {
         return &image[length..length];
     }
-    let start = rules::BLOCK_BYTES * block + 8 + rules::RECORD_BYTES * (k % rules::RECORDS_PER_BLOCK);
+    let start = rules::BLOCK_BYTES * block
+        + 8
+        + rules::RECORD_BYTES * (k % rules::RECORDS_PER_BLOCK);
     let from = least(start, length);
     let to = least(start + rules::RECORD_BYTES, length);
     &image[from..to]

@@ -3,8 +3,3 @@
 mod form;
 mod order;
 mod range;
-
-
-
-
-

@@ -1,3 +1,8 @@
+use mathlib.Core.Path.{_≡_, sym, _∙_}
+use lib.ListN.{length}
+use Rattle.image.proofs.Parts.{part-past, part-clipped}
+use Prim.Native.Nat.{ℕ, _-_, _+_, _*_}
+use Rattle.rules.specs.Blocks.{recordStart, recordAt}
 use native.Mathlib.Omega.{arith}
 use borrow.Author.Needs.{needs}
 use Rattle.image.proofs.records.record_at.Statement.{statement}
@@ -16,7 +21,10 @@ part-result-end : tie.Need-part-result-end
 part-result-end c = search needs
 
 returns : tie.Need-returns
-returns c = search needs
+returns c =
+    let image = c .before .before .before .args .image .now in
+    let k = c .before .before .before .args .k in
+    part-past image (length image) (length image - length image) (omega arith) ∙ sym (part-past image (recordStart k) 32 (omega arith))
 
 mul-start : tie.Need-mul-start
 mul-start c = search needs
@@ -49,7 +57,10 @@ part-result-end-2 : tie.Need-part-result-end-2
 part-result-end-2 c = search needs
 
 returns-2 : tie.Need-returns-2
-returns-2 c = search needs
+returns-2 c =
+    let image = c .before .before .before .before .before .args .image .now in
+    let k = c .before .before .before .before .before .args .k in
+    rw (c .before .before .least .ensures, c .before .least2 .ensures) (part-clipped image (recordStart k) 32)
 
 pub record-at-spec : {M : Type 1} → statement M
 record-at-spec =

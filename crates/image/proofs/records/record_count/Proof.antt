@@ -1,3 +1,6 @@
+use Prim.Native.Nat.{ℕ, _-_, _+_, _*_}
+use mathlib.Core.Path.{_≡_, _∙_}
+use Rattle.rules.specs.Blocks.{blockCount}
 use native.Mathlib.Omega.{arith}
 use borrow.Author.Needs.{needs}
 use Rattle.image.proofs.records.record_count.Statement.{statement}
@@ -13,7 +16,10 @@ cast-result : tie.Need-cast-result
 cast-result c = search needs
 
 returns : tie.Need-returns
-returns c = search needs
+returns c =
+    let image = c .before .before .before .args .image .now in
+    let none : blockCount image - 1 ≡ 0 = omega arith in
+    rw (none) (c .byte-at .ensures .0 ∙ omega arith)
 
 sub-full : tie.Need-sub-full
 sub-full c = search needs
