@@ -22,42 +22,42 @@ fn most_way(form: Form) -> u32
 }
 
 // Whether the bytes below 31 that are said to be 0 are 0.
-fn has_zero_bytes(record: &[u8]) -> bool
-    ensures { λ r. ⌜ r ≡ zeroBytes (now (record .entry)) ⌝ }
+fn has_zero_bytes(fields: &[u8]) -> bool
+    ensures { λ r. ⌜ r ≡ zeroBytes (now (fields .entry)) ⌝ }
 {
-    let kind = byte_at(record, 0);
+    let kind = byte_at(fields, 0);
     if kind == 1 {
-        if !is_blank(record, 1, 1) {
+        if !is_blank(fields, 1, 1) {
             return false;
         }
-        if !is_blank(record, 4, 4) {
+        if !is_blank(fields, 4, 4) {
             return false;
         }
-        return is_blank(record, 12, 19);
+        return is_blank(fields, 12, 19);
     }
     if kind == 2 {
-        if !is_blank(record, 1, 1) {
+        if !is_blank(fields, 1, 1) {
             return false;
         }
-        return is_blank(record, 22, 9);
+        return is_blank(fields, 22, 9);
     }
-    is_blank(record, 6, 25)
+    is_blank(fields, 6, 25)
 }
 
-fn is_form_wrong(form: Form, record: &[u8]) -> bool
-    ensures { λ r. ⌜ r ≡ formWrong form (now (record .entry)) ⌝ }
+fn is_form_wrong(form: Form, fields: &[u8]) -> bool
+    ensures { λ r. ⌜ r ≡ formWrong form (now (fields .entry)) ⌝ }
 {
-    let kind = byte_at(record, 0);
+    let kind = byte_at(fields, 0);
     if kind < 1 {
         return true;
     }
     if 3 < kind {
         return true;
     }
-    if !has_zero_bytes(record) {
+    if !has_zero_bytes(fields) {
         return true;
     }
-    most_way(form) < byte_at(record, 31)
+    most_way(form) < byte_at(fields, 31)
 }
 
 // The first record of a wrong form, or the number of records.

@@ -11,23 +11,23 @@ use image::records::record_at;
 use image::records::record_count;
 
 // A number that rises exactly as table order does.
-pub fn key(record: &[u8]) -> u64
-    ensures { λ r. ⌜ (r ≡ Records·key (now (record .entry))) × (r < 1099511627776) ⌝ }
+pub fn key(fields: &[u8]) -> u64
+    ensures { λ r. ⌜ (r ≡ Records·key (now (fields .entry))) × (r < 1099511627776) ⌝ }
 {
-    let kind = byte_at(record, 0) as u64;
-    let front = (kind * 65536 + two_bytes(record, 2) as u64) * 65536;
+    let kind = byte_at(fields, 0) as u64;
+    let front = (kind * 65536 + two_bytes(fields, 2) as u64) * 65536;
     if kind == 3 {
-        front + two_bytes(record, 4) as u64
+        front + two_bytes(fields, 4) as u64
     } else {
         front
     }
 }
 
 // The same with byte 31 in front, which in a patch keeps the records taken out before those put in.
-fn image_key(record: &[u8]) -> u64
-    ensures { λ r. ⌜ r ≡ imageKey (now (record .entry)) ⌝ }
+fn image_key(fields: &[u8]) -> u64
+    ensures { λ r. ⌜ r ≡ imageKey (now (fields .entry)) ⌝ }
 {
-    byte_at(record, 31) as u64 * 1099511627776 + key(record)
+    byte_at(fields, 31) as u64 * 1099511627776 + key(fields)
 }
 
 // The first record that is not after the one before it, or the number of records.

@@ -11,13 +11,13 @@ use image::bytes::two_bytes;
 use image::records::record_at;
 use image::records::record_count;
 
-fn is_transaction_right(record: &[u8]) -> bool
-    ensures { λ r. ⌜ r ≡ transactionRight (now (record .entry)) ⌝ }
+fn is_transaction_right(fields: &[u8]) -> bool
+    ensures { λ r. ⌜ r ≡ transactionRight (now (fields .entry)) ⌝ }
 {
-    if two_bytes(record, 2) < 1 {
+    if two_bytes(fields, 2) < 1 {
         return false;
     }
-    let period = four_bytes(record, 8);
+    let period = four_bytes(fields, 8);
     if period < 1 {
         return false;
     }
@@ -25,16 +25,16 @@ fn is_transaction_right(record: &[u8]) -> bool
 }
 
 // Whether id, transaction and priority of a task are in range.
-fn is_name_right(record: &[u8]) -> bool
-    ensures { λ r. ⌜ r ≡ nameRight (now (record .entry)) ⌝ }
+fn is_name_right(fields: &[u8]) -> bool
+    ensures { λ r. ⌜ r ≡ nameRight (now (fields .entry)) ⌝ }
 {
-    if two_bytes(record, 2) < 1 {
+    if two_bytes(fields, 2) < 1 {
         return false;
     }
-    if two_bytes(record, 4) < 1 {
+    if two_bytes(fields, 4) < 1 {
         return false;
     }
-    let priority = two_bytes(record, 6);
+    let priority = two_bytes(fields, 6);
     if priority < 1 {
         return false;
     }
@@ -42,66 +42,66 @@ fn is_name_right(record: &[u8]) -> bool
 }
 
 // Whether offset, jitter and response of a task are in range.
-fn is_time_right(record: &[u8]) -> bool
-    ensures { λ r. ⌜ r ≡ timeRight (now (record .entry)) ⌝ }
+fn is_time_right(fields: &[u8]) -> bool
+    ensures { λ r. ⌜ r ≡ timeRight (now (fields .entry)) ⌝ }
 {
-    let offset = four_bytes(record, 8);
+    let offset = four_bytes(fields, 8);
     if 999_999_999 < offset {
         return false;
     }
-    let jitter = four_bytes(record, 12);
+    let jitter = four_bytes(fields, 12);
     if 1_000_000_000 < jitter {
         if jitter != 4_294_967_295 {
             return false;
         }
     }
-    let response = four_bytes(record, 16);
+    let response = four_bytes(fields, 16);
     if response < offset {
         return false;
     }
     response <= 2_000_000_000
 }
 
-fn is_task_right(record: &[u8]) -> bool
-    ensures { λ r. ⌜ r ≡ taskRight (now (record .entry)) ⌝ }
+fn is_task_right(fields: &[u8]) -> bool
+    ensures { λ r. ⌜ r ≡ taskRight (now (fields .entry)) ⌝ }
 {
-    if !is_name_right(record) {
+    if !is_name_right(fields) {
         return false;
     }
-    if !is_time_right(record) {
+    if !is_time_right(fields) {
         return false;
     }
-    1 <= two_bytes(record, 20)
+    1 <= two_bytes(fields, 20)
 }
 
-fn is_pair_right(record: &[u8]) -> bool
-    ensures { λ r. ⌜ r ≡ pairRight (now (record .entry)) ⌝ }
+fn is_pair_right(fields: &[u8]) -> bool
+    ensures { λ r. ⌜ r ≡ pairRight (now (fields .entry)) ⌝ }
 {
-    if 1 < byte_at(record, 1) {
+    if 1 < byte_at(fields, 1) {
         return false;
     }
-    let first = two_bytes(record, 2);
+    let first = two_bytes(fields, 2);
     if first < 1 {
         return false;
     }
-    let second = two_bytes(record, 4);
+    let second = two_bytes(fields, 4);
     if second < 1 {
         return false;
     }
     first != second
 }
 
-fn is_range_wrong(record: &[u8]) -> bool
-    ensures { λ r. ⌜ r ≡ rangeWrong (now (record .entry)) ⌝ }
+fn is_range_wrong(fields: &[u8]) -> bool
+    ensures { λ r. ⌜ r ≡ rangeWrong (now (fields .entry)) ⌝ }
 {
-    let kind = byte_at(record, 0);
+    let kind = byte_at(fields, 0);
     if kind == 1 {
-        return !is_transaction_right(record);
+        return !is_transaction_right(fields);
     }
     if kind == 2 {
-        return !is_task_right(record);
+        return !is_task_right(fields);
     }
-    !is_pair_right(record)
+    !is_pair_right(fields)
 }
 
 // The first record with a field out of range, or the number of records.

@@ -1,0 +1,61 @@
+use native.Mathlib.Omega.{arith}
+use borrow.Author.Needs.{needs}
+use Rattle.table.proofs.order.key.Statement.{statement}
+use Rattle.table.proofs.order.key.Tie as tie
+use Rattle.table.proofs.order.key.Reads as reads
+use Rattle.table.proofs.order.key.Lts as lts
+use Rattle.image.proofs.bytes.byte_at.Reads as byte-at-reads
+use Rattle.image.proofs.bytes.two_bytes.Reads as two-bytes-reads
+
+byte-at-requires : tie.Need-byte-at-requires
+byte-at-requires c κs = search needs
+
+cast-kind : tie.Need-cast-kind
+cast-kind c = search needs
+
+mul-front : tie.Need-mul-front
+mul-front c = search needs
+
+two-bytes-requires : tie.Need-two-bytes-requires
+two-bytes-requires c κs = search needs
+
+cast-front : tie.Need-cast-front
+cast-front c = search needs
+
+add-front : tie.Need-add-front
+add-front c = search needs
+
+mul-front-2 : tie.Need-mul-front-2
+mul-front-2 c = search needs
+
+two-bytes-requires-2 : tie.Need-two-bytes-requires-2
+two-bytes-requires-2 c κs = search needs
+
+cast-result : tie.Need-cast-result
+cast-result c = search needs
+
+add-result : tie.Need-add-result
+add-result c = search needs
+
+returns : tie.Need-returns
+returns c = search needs
+
+returns-2 : tie.Need-returns-2
+returns-2 c = search needs
+
+pub key-spec : {M : Type 1} → statement M
+key-spec =
+    tie.close
+    (tie.spec
+    byte-at-requires
+    cast-kind
+    mul-front
+    two-bytes-requires
+    cast-front
+    add-front
+    mul-front-2
+    two-bytes-requires-2
+    cast-result
+    add-result
+    returns
+    returns-2)

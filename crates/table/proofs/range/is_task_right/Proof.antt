@@ -1,0 +1,38 @@
+use native.Mathlib.Omega.{arith}
+use borrow.Author.Needs.{needs}
+use Rattle.table.proofs.range.is_task_right.Statement.{statement}
+use Rattle.table.proofs.range.is_task_right.Tie as tie
+use Rattle.table.proofs.range.is_task_right.Reads as reads
+use Rattle.table.proofs.range.is_task_right.Lts as lts
+use Rattle.image.proofs.bytes.two_bytes.Reads as two-bytes-reads
+use Rattle.table.proofs.range.is_name_right.Reads as is-name-right-reads
+use Rattle.table.proofs.range.is_time_right.Reads as is-time-right-reads
+
+is-name-right-requires : tie.Need-is-name-right-requires
+is-name-right-requires c κs = search needs
+
+returns : tie.Need-returns
+returns c = search needs
+
+is-time-right-requires : tie.Need-is-time-right-requires
+is-time-right-requires c κs = search needs
+
+returns-2 : tie.Need-returns-2
+returns-2 c = search needs
+
+two-bytes-requires : tie.Need-two-bytes-requires
+two-bytes-requires c κs = search needs
+
+returns-3 : tie.Need-returns-3
+returns-3 c = search needs
+
+pub is-task-right-spec : {M : Type 1} → statement M
+is-task-right-spec =
+    tie.close
+    (tie.spec
+    is-name-right-requires
+    returns
+    is-time-right-requires
+    returns-2
+    two-bytes-requires
+    returns-3)
