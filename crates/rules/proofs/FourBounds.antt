@@ -18,6 +18,7 @@ use Rattle.rules.proofs.FourBounds.Order.{chain≤path, path≤levels, 
 use Rattle.rules.proofs.FourBounds.Accepted.{accepted-both, accepted-listed}
 pub mod Order
 pub mod Accepted
+pub mod Unique
 
 -- chain <= path <= levels, and chain <= transactions
 abbrev pub Ordered : Bounds → Type 0
@@ -30,13 +31,14 @@ refused-ordered v = (omega arith, omega arith, omega arith)
 
 -- the figures of a table are ordered, where every task's transaction is listed
 pub figures-ordered : (rs : List (List ℕ)) (rows : List ℕ) (f : Figures)
-  → ((i : ℕ) → i < taskCount rs → listed (transactions rs) (taskAt rs i .transaction) ≡ true)
-  → FiguresOf rs rows f → Ordered (boundsFound rs f)
+    → ((i : ℕ) → i < taskCount rs → listed (transactions rs) (taskAt rs i .transaction) ≡ true)
+    → FiguresOf rs rows f → Ordered (boundsFound rs f)
 figures-ordered rs rows f known right =
-    let (c, path, heavy) = right .path .reached in
-    (chain≤path (taskCount rs) (related rs rows) (sizeAt rs) (f .path) (f .chain) (right .path) (right .chain .chain),
-    omega (arith, path≤levels rs rows c path, heavy, right .levels),
-    chain≤transactions rs rows (f .transactions) (f .chain) known (right .transactions) (right .chain .chain))
+    let (c, path, heavy) = right .path .reached in (
+      chain≤path (taskCount rs) (related rs rows) (sizeAt rs) (f .path) (f .chain) (right .path) (right .chain .chain),
+      omega (arith, path≤levels rs rows c path, heavy, right .levels),
+      chain≤transactions rs rows (f .transactions) (f .chain) known (right .transactions) (right .chain .chain),
+    )
 
 -- always: chain <= path <= levels, and chain <= transactions
 pub bounds-ordered : (image rows ids : List ℕ) (answer : Bounds) (later : List ℕ) → BoundCall image rows ids answer later → Ordered answer
@@ -48,6 +50,7 @@ bounds-ordered image rows ids answer later call =
   where
     v : Verdict
     v = boundVerdict image rows ids
+
     worked : accepted (tableVerdict image) ≡ true → BoundsWorkedOut (records image) rows ids answer later → Ordered answer
     worked table out =
         either (passesAny (records image) (out .figures))

@@ -22,7 +22,7 @@ accepted-both v w h =
 
 -- a check over all places that accepts finds its fault at none of them
 pub accepted-all : (n : ℕ) (fault : ℕ → Bool) (count : ℕ) → accepted (refuseAt (suc n) fault count) ≡ true
-  → (k : ℕ) → k < count → fault k ≡ false
+    → (k : ℕ) → k < count → fault k ≡ false
 accepted-all n fault count h k l =
     either (some fault count)
     (λ t. absurd (omega (arith, eqb-true (suc n) 0 (rw t at h))))
@@ -57,7 +57,7 @@ reference-listed rs r kind h =
 
 -- in an accepted table the transaction of every task is listed
 pub accepted-listed : (image : List ℕ) → accepted (tableVerdict image) ≡ true
-  → (i : ℕ) → i < taskCount (records image) → listed (transactions (records image)) (taskAt (records image) i .transaction) ≡ true
+    → (i : ℕ) → i < taskCount (records image) → listed (transactions (records image)) (taskAt (records image) i .transaction) ≡ true
 unfolding tableVerdict
 accepted-listed image h i l =
     let rs : List (List ℕ) = records image in

@@ -52,8 +52,8 @@ sumTo-longer f p (suc m) h =
 -- priorities rise along a path, so that it has at most one task at each: with what the levels below its first task hold,
 -- it weighs at most what all levels hold
 module _ (n : ℕ) (R : ℕ → ℕ → Bool) (S P level : ℕ → ℕ) (top : ℕ)
-  (rises : (i j : ℕ) → T (R i j) → P i < P j)
-  (inside : (i : ℕ) → i < n → (S i ≤ level (P i)) × (P i < top)) where
+    (rises : (i j : ℕ) → T (R i j) → P i < P j)
+    (inside : (i : ℕ) → i < n → (S i ≤ level (P i)) × (P i < top)) where
   climb : (i : ℕ) (c : List ℕ) → Path n R (i ∷ c) → weight S (i ∷ c) + sumTo level (P i) ≤ sumTo level top
   unfolding sumTo
   climb i [] h = omega (arith, inside i h, sumTo-longer level (suc (P i)) top (inside i h .1))
@@ -74,10 +74,11 @@ related-rises rs rows i j t =
 
 -- a task's size is at most what its level holds, and its level is one of those added up
 pub size-in-level : (rs : List (List ℕ)) (i : ℕ) → i < taskCount rs
-  → (sizeAt rs i ≤ levelAt rs (priorityAt rs i)) × (priorityAt rs i < largestTo (priorityAt rs) (taskCount rs) + 1)
-size-in-level rs i h =
-    (rw (eq-eqb (priorityAt rs i) (priorityAt rs i) refl) at (largestTo-most (λ k. cond (eqb (priorityAt rs k) (priorityAt rs i)) (sizeAt rs k) 0) (taskCount rs) i h),
-    omega (arith, largestTo-most (priorityAt rs) (taskCount rs) i h))
+    → (sizeAt rs i ≤ levelAt rs (priorityAt rs i)) × (priorityAt rs i < largestTo (priorityAt rs) (taskCount rs) + 1)
+size-in-level rs i h = (
+  rw (eq-eqb (priorityAt rs i) (priorityAt rs i) refl) at (largestTo-most (λ k. cond (eqb (priorityAt rs k) (priorityAt rs i)) (sizeAt rs k) 0) (taskCount rs) i h),
+  omega (arith, largestTo-most (priorityAt rs) (taskCount rs) i h),
+)
 
 -- no path weighs more than the levels
 pub path≤levels : (rs : List (List ℕ)) (rows c : List ℕ) → Path (taskCount rs) (related rs rows) c → weight (sizeAt rs) c ≤ levelBound rs
@@ -140,19 +141,21 @@ own-adds-size S test i c t = rw t (omega arith)
 
 -- where every task of a chain passes one of m tests, what passes each of them weighs together at least as much as the chain
 weight-shared : (n : ℕ) (R : ℕ → ℕ → Bool) (S : ℕ → ℕ) (m : ℕ) (test : ℕ → ℕ → Bool) (c : List ℕ) → Chain n R c
-  → ((i : ℕ) → i < n → (t : ℕ) × (t < m) × (test t i ≡ true))
-  → weight S c ≤ sumTo (λ t. weight S (own (test t) c)) m
+    → ((i : ℕ) → i < n → (t : ℕ) × (t < m) × (test t i ≡ true))
+    → weight S c ≤ sumTo (λ t. weight S (own (test t) c)) m
 weight-shared n R S m test [] h passes = omega arith
 weight-shared n R S m test (i ∷ c) h passes =
     let (t, below, there) = passes i (h .0) in
-    omega (arith,
-    weight-shared n R S m test c (h .2) passes,
-    sumTo-more (λ u. weight S (own (test u) (i ∷ c))) (λ u. weight S (own (test u) c)) m t (S i)
-    (λ u. own-adds S (test u) i c) below (own-adds-size S (test t) i c there))
+    omega (
+      arith,
+      weight-shared n R S m test c (h .2) passes,
+      sumTo-more (λ u. weight S (own (test u) (i ∷ c))) (λ u. weight S (own (test u) c)) m t (S i)
+          (λ u. own-adds S (test u) i c) below (own-adds-size S (test t) i c there),
+    )
 
 -- a task whose transaction is listed is in one of the transactions
 listed-in : (rs : List (List ℕ)) (i : ℕ) → listed (transactions rs) (taskAt rs i .transaction) ≡ true
-  → (t : ℕ) × (t < length (transactions rs)) × (inTransaction rs t i ≡ true)
+    → (t : ℕ) × (t < length (transactions rs)) × (inTransaction rs t i ≡ true)
 listed-in rs i h =
     let x : ℕ = taskAt rs i .transaction in
     let t : ℕ = placeOf (transactions rs) x in
@@ -162,18 +165,23 @@ listed-in rs i h =
 
 -- no chain weighs more than the transactions, where every task's transaction is listed
 pub chain≤transactions : (rs : List (List ℕ)) (rows : List ℕ) (r : ℕ) (c : List ℕ)
-  → ((i : ℕ) → i < taskCount rs → listed (transactions rs) (taskAt rs i .transaction) ≡ true)
-  → TransactionBound rs rows r → Chain (taskCount rs) (related rs rows) c → weight (sizeAt rs) c ≤ r
+    → ((i : ℕ) → i < taskCount rs → listed (transactions rs) (taskAt rs i .transaction) ≡ true)
+    → TransactionBound rs rows r → Chain (taskCount rs) (related rs rows) c → weight (sizeAt rs) c ≤ r
 chain≤transactions rs rows r c known bound h =
-    omega (arith, bound .total,
-    weight-shared (taskCount rs) (related rs rows) (sizeAt rs) m (inTransaction rs) c h (λ i l. listed-in rs i (known i l)),
-    sumTo-least (bound .each) (λ t. weight (sizeAt rs) (own (inTransaction rs t) c)) m part)
+    omega (
+      arith,
+      bound .total,
+      weight-shared (taskCount rs) (related rs rows) (sizeAt rs) m (inTransaction rs) c h (λ i l. listed-in rs i (known i l)),
+      sumTo-least (bound .each) (λ t. weight (sizeAt rs) (own (inTransaction rs t) c)) m part,
+    )
   where
     m : ℕ
     m = length (transactions rs)
+
     part : (t : ℕ) → t < m → weight (sizeAt rs) (own (inTransaction rs t) c) ≤ bound .each t
     part t l =
-        bound .bound t l .most (own (inTransaction rs t) c)
-        (chain-path (taskCount rs) (related rs rows) (own (inTransaction rs t) c)
-        (own-chain (taskCount rs) (related rs rows) (inTransaction rs t) c h),
-        own-all (inTransaction rs t) c)
+        bound .bound t l .most (own (inTransaction rs t) c) (
+          chain-path (taskCount rs) (related rs rows) (own (inTransaction rs t) c)
+              (own-chain (taskCount rs) (related rs rows) (inTransaction rs t) c h),
+          own-all (inTransaction rs t) c,
+        )
