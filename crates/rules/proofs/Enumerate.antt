@@ -13,6 +13,8 @@ use Rattle.rules.proofs.Enumerate.Chains.{heaviest, heaviest-heaviest}
 pub mod Paths
 pub mod Winner
 pub mod Chains
+pub mod Apart
+pub mod Answered
 
 -- one more than the largest priority in use: priorities rise along chains and paths, so none is longer
 abbrev pub topOf : List (List ℕ) → ℕ
