@@ -1,3 +1,4 @@
 pub mod Numbers
 pub mod FourBounds
 pub mod Enumerate
+pub mod Cases
