@@ -1,7 +1,7 @@
 -- Cases 1 to 11 of "On both sides", as one table with one theorem over it.
 use Prim.Native.Nat.{ℕ, _/_, _%_}
 use mathlib.Core.List.{List, [], _∷_, _++_}
-use mathlib.Core.Bool.{Bool, true, false}
+use mathlib.Core.Bool.{true, false}
 use lib.ListN.{set, replicate}
 use Rattle.rules.specs.Numbers.{sumTo, largestTo, upTo, lowest, blank}
 use Rattle.rules.specs.Records.{ofKind, formWrong, rangeWrong, tooMany, referenceWrong}

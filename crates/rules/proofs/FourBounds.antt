@@ -1,16 +1,16 @@
 -- The four bounds: how the answer of a bound call is ordered, for every image and every map.
-use Prim.Native.Nat.{ℕ, _+_, _≤_, _<_}
-use mathlib.Core.List.{List, [], _∷_}
-use mathlib.Core.Bool.{Bool, true, false, cond, _||_}
-use mathlib.Core.Path.{_≡_, refl}
+use Prim.Native.Nat.{ℕ, _≤_, _<_}
+use mathlib.Core.List.{List}
+use mathlib.Core.Bool.{true, _||_}
+use mathlib.Core.Path.{_≡_}
 use native.Mathlib.Omega.{arith}
-use lib.ListN.{length, getD}
-use lib.Dec.{ltb, eqb}
+use lib.ListN.{length}
+use lib.Dec.{ltb}
 use Rattle.rules.specs.declared.Verdict.{Verdict}
 use Rattle.rules.specs.declared.Bounds.{Bounds}
 use Rattle.rules.specs.Blocks.{records}
 use Rattle.rules.specs.Records.{taskCount, taskAt, transactions, listed}
-use Rattle.rules.specs.Chains.{weight, related, sizeAt, Figures, FiguresOf, chainBound}
+use Rattle.rules.specs.Chains.{related, sizeAt, Figures, FiguresOf}
 use Rattle.rules.specs.Refusals.{accepted, tableVerdict, shortRefusal}
 use Rattle.rules.specs.Calls.{boundVerdict, passesAny, boundRefusal, boundsFound, BoundCall, BoundsWorkedOut}
 use Rattle.rules.proofs.Numbers.{either}

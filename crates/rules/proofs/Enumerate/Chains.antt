@@ -1,13 +1,13 @@
 -- The heaviest chain, first among equals, worked out: a chain lengthened by one place at a time.
 use Prim.Native.Nat.{ℕ, zero, suc, _+_, _≤_, _<_}
 use mathlib.Core.List.{List, [], _∷_, map}
-use mathlib.Core.Bool.{Bool, true, false, _&&_}
+use mathlib.Core.Bool.{Bool, true, _&&_}
 use mathlib.Core.Path.{_≡_, refl, sym}
 use native.Mathlib.Omega.{arith}
 use lib.Dec.{T}
-use Rattle.rules.specs.Chains.{weight, Under, Chain, All, Before, Heaviest}
-use Rattle.rules.proofs.FourBounds.Order.{T-true, true-T, both}
-use Rattle.rules.proofs.Enumerate.Paths.{both-pass, every, all-every}
+use Rattle.rules.specs.Chains.{Under, Chain, All, Heaviest}
+use Rattle.rules.proofs.FourBounds.Order.{T-true, true-T, both, both-pass}
+use Rattle.rules.proofs.Enumerate.Paths.{every, all-every}
 use Rattle.rules.proofs.Enumerate.Winner.{wins, wins-itself, wins-through, wins-longer, winnerTo, winnerTo-empty, winnerTo-each, winnerTo-holds, wins-weight, wins-before}
 
 -- chains with the same ids are the same, where no two places share an id

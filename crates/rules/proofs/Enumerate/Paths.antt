@@ -1,20 +1,15 @@
 -- The largest sum over paths, worked out: the best sum from each place, and the largest of those.
-use Prim.Native.Nat.{ℕ, zero, suc, _+_, _≤_, _<_, max}
+use Prim.Native.Nat.{ℕ, zero, suc, _+_, _≤_, _<_}
 use mathlib.Core.List.{List, [], _∷_}
-use mathlib.Core.Bool.{Bool, true, false, cond, _&&_}
+use mathlib.Core.Bool.{Bool, true, cond, _&&_}
 use mathlib.Core.Path.{_≡_, refl, sym, _∙_}
 use native.Mathlib.Omega.{arith}
 use borrow.Author.Tests.{ltb-true, ltb-false}
 use lib.Dec.{T, ltb}
 use Rattle.rules.specs.Numbers.{largestTo}
 use Rattle.rules.specs.Chains.{weight, Path, All, Largest}
-use Rattle.rules.proofs.Numbers.{either, never, largestTo-most}
-use Rattle.rules.proofs.FourBounds.Order.{T-true, true-T, both}
-
--- a test of two halves that both pass
-pub both-pass : (a b : Bool) → T a → T b → T (a && b)
-both-pass true b s t = t
-both-pass false b s t = s
+use Rattle.rules.proofs.Numbers.{either, largestTo-most}
+use Rattle.rules.proofs.FourBounds.Order.{T-true, true-T, both, both-pass}
 
 -- the value at i where the test passes there, and 0 where it does not
 abbrev pub where-passed : (ℕ → Bool) → (ℕ → ℕ) → ℕ → ℕ

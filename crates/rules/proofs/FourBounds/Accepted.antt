@@ -1,18 +1,18 @@
 -- What an accepted table says of its tasks: the transaction of each is listed.
-use Prim.Native.Nat.{ℕ, zero, suc, _+_, _≤_, _<_}
+use Prim.Native.Nat.{ℕ, zero, suc, _<_}
 use mathlib.Core.List.{List, [], _∷_}
-use mathlib.Core.Bool.{Bool, true, false, cond, _||_, not}
-use mathlib.Core.Path.{_≡_, refl, ap}
+use mathlib.Core.Bool.{Bool, true, false}
+use mathlib.Core.Path.{_≡_, refl}
 use native.Mathlib.Omega.{arith}
 use borrow.Author.Tests.{ltb-false, eqb-true, eq-eqb}
 use lib.ListN.{length, getD}
-use lib.Dec.{ltb, eqb}
+use lib.Dec.{eqb}
 use Rattle.rules.specs.declared.Form.the-variants.{Table}
 use Rattle.rules.specs.declared.Verdict.{Verdict}
-use Rattle.rules.specs.Numbers.{le4, lowest, some}
+use Rattle.rules.specs.Numbers.{lowest, some}
 use Rattle.rules.specs.Blocks.{records}
-use Rattle.rules.specs.Records.{kindOf, secondOf, ofKind, tasks, taskCount, taskAt, transactions, listed, periodIn, referenceWrong}
-use Rattle.rules.specs.Refusals.{accepted, orElse, refuseIf, refuseAt, frameVerdict, recordsVerdict, referenceRefusal, tableVerdict}
+use Rattle.rules.specs.Records.{kindOf, secondOf, ofKind, taskCount, taskAt, transactions, listed, referenceWrong}
+use Rattle.rules.specs.Refusals.{accepted, orElse, refuseAt, frameVerdict, recordsVerdict, referenceRefusal, tableVerdict}
 use Rattle.rules.proofs.Numbers.{either, never, lowest-below}
 
 -- where one check after another accepts, each of the two does

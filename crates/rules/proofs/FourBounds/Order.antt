@@ -2,13 +2,12 @@
 use Prim.Native.Nat.{ℕ, zero, suc, _+_, _≤_, _<_}
 use mathlib.Core.List.{List, [], _∷_}
 use mathlib.Core.Bool.{Bool, true, false, cond, _&&_}
-use mathlib.Core.Path.{_≡_, refl, sym, _∙_}
-use native.Mathlib.Numerals.{add-one}
+use mathlib.Core.Path.{_≡_, refl, sym}
 use native.Mathlib.Omega.{arith}
 use borrow.Author.Tests.{ltb-true, ltb-false, eqb-true, eq-eqb}
 use lib.ListN.{length, getD}
 use lib.Dec.{T, ltb, eqb}
-use Rattle.rules.specs.Numbers.{sumTo, largestTo, lowest}
+use Rattle.rules.specs.Numbers.{sumTo, largestTo}
 use Rattle.rules.specs.Records.{taskCount, taskAt, transactions, numberOf, placeOf, listed}
 use Rattle.rules.specs.Preempt.{cell}
 use Rattle.rules.specs.Chains.{weight, Under, Chain, Path, All, Largest, related, sizeAt, priorityAt, inTransaction, TransactionBound, levelAt, levelBound}
@@ -23,10 +22,14 @@ pub true-T : (b : Bool) → b ≡ true → T b
 true-T true e = tt
 true-T false e = never false e refl
 
--- both halves of a test
+-- a test of two halves passes where both do
 pub both : (a b : Bool) → T (a && b) → T a × T b
 both true b t = (tt, t)
 both false b t = absurd t
+
+pub both-pass : (a b : Bool) → T a → T b → T (a && b)
+both-pass true b s t = t
+both-pass false b s t = s
 
 -- every chain is a path
 pub chain-path : (n : ℕ) (R : ℕ → ℕ → Bool) (c : List ℕ) → Chain n R c → Path n R c
@@ -37,6 +40,12 @@ chain-path n R (i ∷ (j ∷ c)) h = (h .0, h .1 .0, chain-path n R (j ∷ c) (h
 -- no chain weighs more than the path bound
 pub chain≤path : (n : ℕ) (R : ℕ → ℕ → Bool) (S : ℕ → ℕ) (r : ℕ) (c : List ℕ) → Largest (Path n R) (weight S) r → Chain n R c → weight S c ≤ r
 chain≤path n R S r c bound h = bound .most c (chain-path n R c h)
+
+-- so that the largest weight of a chain is at most the path bound
+pub largest-chain≤path : (n : ℕ) (R : ℕ → ℕ → Bool) (S : ℕ → ℕ) (q r : ℕ) → Largest (Chain n R) (weight S) q → Largest (Path n R) (weight S) r → q ≤ r
+largest-chain≤path n R S q r chains paths =
+    let (c, chain, same) = chains .reached in
+    omega (arith, chain≤path n R S r c paths chain, same)
 
 -- a sum over more numbers is no smaller
 pub sumTo-longer : (f : ℕ → ℕ) (p m : ℕ) → p ≤ m → sumTo f p ≤ sumTo f m

@@ -1,20 +1,18 @@
 -- Each figure, and each answer of a bound call with the ids afterwards, is determined by the table and the map.
-use Prim.Native.Nat.{ℕ, zero, suc, _≤_, _<_}
-use mathlib.Core.List.{List, [], _∷_, map, List-discrete}
-use mathlib.Core.Bool.{Bool, true, false, cond}
-use mathlib.Core.Path.{_≡_, refl, ap, sym, _∙_}
+use Prim.Native.Nat.{ℕ, _<_}
+use mathlib.Core.List.{List, List-discrete}
+use mathlib.Core.Bool.{Bool, true, false}
+use mathlib.Core.Path.{_≡_, ap, sym, _∙_}
 use native.Mathlib.Decide.{ℕ-discrete}
 use native.Mathlib.Omega.{arith}
 use lib.ListN.{length}
-use Rattle.rules.specs.declared.Verdict.{Verdict}
 use Rattle.rules.specs.declared.Bounds.{Bounds}
-use Rattle.rules.specs.Numbers.{sumTo}
 use Rattle.rules.specs.Blocks.{records}
 use Rattle.rules.specs.Records.{taskCount, transactions}
-use Rattle.rules.specs.Chains.{weight, Chain, Path, All, Before, Largest, Heaviest, related, sizeAt, idAt, inTransaction, TransactionBound, Figures, FiguresOf, chainIds}
-use Rattle.rules.specs.Chains.Before.{less, later, shorter}
+use Rattle.rules.specs.Chains.{weight, Path, All, Before, Largest, Heaviest, related, sizeAt, idAt, inTransaction, TransactionBound, Figures, FiguresOf, chainIds}
+use Rattle.rules.specs.Chains.Before.{less, later}
 use Rattle.rules.specs.Refusals.{accepted}
-use Rattle.rules.specs.Calls.{over, boundVerdict, passesAny, boundRefusal, boundsFound, BoundCall, BoundsWorkedOut}
+use Rattle.rules.specs.Calls.{over, boundVerdict, passesAny, boundsFound, BoundCall, BoundsWorkedOut}
 use Rattle.rules.proofs.Numbers.{either, sumTo-ext}
 
 -- there is one largest value
