@@ -13,7 +13,7 @@ use Rattle.rules.proofs.Enumerate.{figures}
 use Rattle.rules.proofs.Enumerate.Paths.{pathSum, sumFrom}
 use Rattle.rules.proofs.Enumerate.Winner.{notAfter, wins, winner, winnerTo}
 use Rattle.rules.proofs.Enumerate.Chains.{heaviest}
-use Rattle.rules.proofs.Cases.Entries.{Case, AllHold}
+use Rattle.rules.proofs.Cases.Entries.{shownAs, Case, AllHold}
 use Rattle.rules.proofs.Cases.Entries.Case.{preempted, shown, patched}
 use Rattle.rules.proofs.Cases.Tests.{all-hold}
 pub mod Entries
@@ -68,7 +68,7 @@ figure2 =
     ∷ task 23 2 2588 3 0 3699 3
     ∷ []
 
--- cases 1 to 10, figure 2 itself, and case 11
+-- cases 1 to 10 in their order, figure 2 itself, and case 11
 abbrev pub cases : List Case
 cases =
     preempted (together 617 2588 2588 0) 0 1 false
@@ -81,10 +81,8 @@ cases =
     ∷ preempted (asunder 2 []) 0 1 true
     ∷ preempted (asunder 2 (oneWay 2 1 ∷ [])) 0 1 true
     ∷ preempted (asunder 2 (precedence 2 1 ∷ [])) 0 1 false
-    ∷ shown figure2 (record { weight = 8; ids = 11 ∷ 12 ∷ 23 ∷ []; path = 10; transactions = 9; levels = 10 })
-    ∷ patched figure2 (puts (oneWay 12 23) ∷ [])
-    (record { weight = 7; ids = 11 ∷ 12 ∷ 21 ∷ []; path = 9; transactions = 9; levels = 10 })
-    2
+    ∷ shown figure2 (shownAs 8 (11 ∷ 12 ∷ 23 ∷ []) 10 9 10)
+    ∷ patched figure2 (puts (oneWay 12 23) ∷ []) (shownAs 7 (11 ∷ 12 ∷ 21 ∷ []) 9 9 10) 2
     ∷ []
 
 -- each of them holds of the definitions

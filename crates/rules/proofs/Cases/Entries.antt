@@ -17,6 +17,11 @@ pub record Shown : Type 0 where
   pub transactions : ℕ
   pub levels : ℕ
 
+-- the chain's weight and ids, then the three other bounds
+abbrev pub shownAs : ℕ → List ℕ → ℕ → ℕ → ℕ → Shown
+shownAs weight ids path transactions levels =
+    record { weight = weight; ids = ids; path = path; transactions = transactions; levels = levels }
+
 -- the figures of the table and the map are shown so
 pub record Shows (rs : List (List ℕ)) (rows : List ℕ) (s : Shown) : Type 0 where
   pub found : Figures
@@ -27,6 +32,7 @@ pub record Shows (rs : List (List ℕ)) (rows : List ℕ) (s : Shown) : Type 0 w
   pub transactions : found .transactions ≡ s .transactions
   pub levels : found .levels ≡ s .levels
 
+-- an entry of the table of cases
 pub data Case : Type 0 where
   -- in this table the task at the first place may be preempted by the one at the second, or may not
   preempted : List (List ℕ) → ℕ → ℕ → Bool → Case
@@ -54,6 +60,7 @@ Holds (patched base patch s count) =
     × Shows (outcome base patch) (patchedMap base patch (mapOf base)) s
     × (touchedCount base patch ≡ count)
 
+-- every entry of the table holds
 abbrev pub AllHold : List Case → Type 0
 AllHold [] = Unit {0}
 AllHold (c ∷ cs) = Holds c × AllHold cs

@@ -21,6 +21,7 @@ abbrev pub agree : Bool → Bool → Bool
 agree true b = b
 agree false b = not b
 
+-- answers that agree are equal
 agree-equal : (a b : Bool) → T (agree a b) → a ≡ b
 agree-equal true true t = refl
 agree-equal true false t = absurd t
@@ -44,6 +45,7 @@ shows rs f s =
     && (same (chainIds rs f) (s .ids)
     && (eqb (f .path) (s .path) && (eqb (f .transactions) (s .transactions) && eqb (f .levels) (s .levels))))
 
+-- and then so are the figures that the definitions ask for
 shows-right : (rs : List (List ℕ)) (rows : List ℕ) (s : Shown) → valid rs ≡ true → T (shows rs (figures rs rows) s) → Shows rs rows s
 shows-right rs rows s table p =
     let f : Figures = figures rs rows in
@@ -75,6 +77,7 @@ passes (patched base patch s count) =
     && (shows (outcome base patch) (figures (outcome base patch) (patchedMap base patch (mapOf base))) s
     && eqb (touchedCount base patch) count)))
 
+-- an entry that passes its test holds
 pub passes-holds : (c : Case) → T (passes c) → Holds c
 passes-holds (preempted rs i j answer) p =
     let (table, right) = both (valid rs) (agree (decided rs i j) answer) p in
@@ -103,6 +106,7 @@ abbrev pub allPass : List Case → Bool
 allPass [] = true
 allPass (c ∷ cs) = passes c && allPass cs
 
+-- so that all of them hold
 pub all-hold : (cs : List Case) → T (allPass cs) → AllHold cs
 all-hold [] p = tt
 all-hold (c ∷ cs) p =

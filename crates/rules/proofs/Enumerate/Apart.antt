@@ -27,6 +27,7 @@ abbrev Rising : List (List ℕ) → Type 0
 Rising [] = Unit {0}
 Rising (r ∷ rs) = Above (imageKey r) rs × Rising rs
 
+-- what is above y is above all that is lower than y
 above-lower : (x y : ℕ) (rs : List (List ℕ)) → x ≤ y → Above y rs → Above x rs
 above-lower x y [] h all = tt
 above-lower x y (r ∷ rs) h all = (omega arith, above-lower x y rs h (all .1))
@@ -58,12 +59,13 @@ rising-ofKind k (r ∷ rs) h =
     (λ t. rw t (above-ofKind (imageKey r) k rs (h .0), rising-ofKind k rs (h .1)))
     (λ t. rw t (rising-ofKind k rs (h .1)))
 
--- so that an earlier record has the lower key
+-- the record at each place is above x
 above-at : (x : ℕ) (rs : List (List ℕ)) (i : ℕ) → Above x rs → i < length rs → x < imageKey (getD rs i [])
 above-at x [] i all l = absurd (omega arith)
 above-at x (r ∷ rs) zero all l = all .0
 above-at x (r ∷ rs) (suc i) all l = above-at x rs i (all .1) (omega arith)
 
+-- so that an earlier record has the lower key
 rising-at : (rs : List (List ℕ)) (i j : ℕ) → Rising rs → i < j → j < length rs → imageKey (getD rs i []) < imageKey (getD rs j [])
 rising-at [] i j h l m = absurd (omega arith)
 rising-at (r ∷ rs) i zero h l m = absurd (omega arith)

@@ -33,6 +33,7 @@ module _ (n : ℕ) (R : ℕ → ℕ → Bool) (S id : ℕ → ℕ) where
       let (all, under) = all-under test i c (h .1) in
       ((passes, all), (may, under))
 
+  -- and the other way round
   under-all : (test : ℕ → Bool) (i : ℕ) (c : List ℕ) → All test c → Under n R i c → All (λ j. test j && R i j) c
   under-all test i [] all under = tt
   under-all test i (j ∷ c) all under =
@@ -49,8 +50,9 @@ module _ (n : ℕ) (R : ℕ → ℕ → Bool) (S id : ℕ → ℕ) where
       let (passes, under) = all-under test i (heaviest k (λ j. test j && R i j)) all in
       ((l, under, chain), (true-T (test i) t, passes)))
 
-  -- where a rank below top rises along the relation, no chain is longer than the ranks left above the places that pass
+  -- a rank below top rises along the relation: no chain is longer than the ranks left above the places that pass
   module _ (P : ℕ → ℕ) (top : ℕ) (rises : (i j : ℕ) → T (R i j) → P i < P j) (below : (i : ℕ) → i < n → P i < top) where
+    -- so that it wins over all chains of places that pass
     heaviest-wins : (k : ℕ) (test : ℕ → Bool) → ((i : ℕ) → i < n → T (test i) → top ≤ P i + k)
         → (c : List ℕ) → Chain n R c → All test c → wins S id (heaviest k test) c ≡ true
     unfolding heaviest
@@ -71,7 +73,7 @@ module _ (n : ℕ) (R : ℕ → ℕ → Bool) (S id : ℕ → ℕ) where
         rest : List ℕ
         rest = heaviest k (λ j. test j && R i j)
 
-    -- so that with top places left it is the heaviest chain, and first among equals where no two places share an id
+    -- with top places left it is the heaviest chain, and first among equals where no two places share an id
     pub heaviest-heaviest : ((i j : ℕ) → i < n → j < n → id i ≡ id j → i ≡ j) → Heaviest n R S id (heaviest top every)
     heaviest-heaviest apart =
         record {

@@ -64,6 +64,7 @@ module _ (n : ℕ) (R : ℕ → ℕ → Bool) (S : ℕ → ℕ) (test : ℕ → 
       let (c, path, all, same) = sumFrom-reached k j l passes in
       (j ∷ c, (h, may, path), (t, all), omega arith))
 
+  -- and so is the largest
   pub pathSum-reached : (k : ℕ) → (c : List ℕ) × (Path n R c × All test c) × (weight S c ≡ pathSum k)
   unfolding pathSum
   pathSum-reached k =
@@ -73,8 +74,9 @@ module _ (n : ℕ) (R : ℕ → ℕ → Bool) (S : ℕ → ℕ) (test : ℕ → 
       let (c, path, all, same) = sumFrom-reached k i l (true-T (test i) s) in
       (i ∷ c, (path, all), same ∙ e))
 
-  -- where a rank below top rises along the relation, no path is longer than the ranks left above its first place
+  -- a rank below top rises along the relation: no path is longer than the ranks left above its first place
   module _ (P : ℕ → ℕ) (top : ℕ) (rises : (i j : ℕ) → T (R i j) → P i < P j) (below : (i : ℕ) → i < n → P i < top) where
+    -- so that no path weighs more than the best sum from its first place
     sumFrom-most : (k i : ℕ) (c : List ℕ) → top ≤ P i + suc k → Path n R (i ∷ c) → All test (i ∷ c) → weight S (i ∷ c) ≤ sumFrom k i
     unfolding sumFrom
     sumFrom-most zero i [] left path all = omega arith
@@ -89,7 +91,7 @@ module _ (n : ℕ) (R : ℕ → ℕ → Bool) (S : ℕ → ℕ) (test : ℕ → 
               (T-true (test j && R i j) (both-pass (test j) (R i j) (all .1 .0) (path .1))),
         )
 
-    -- so that the sum with top places left is the largest
+    -- the sum with top places left is the largest
     pub pathSum-largest : Largest (λ c. Path n R c × All test c) (weight S) (pathSum top)
     unfolding pathSum
     pathSum-largest = record { reached = pathSum-reached top; most = most′ }
@@ -103,14 +105,16 @@ module _ (n : ℕ) (R : ℕ → ℕ → Bool) (S : ℕ → ℕ) (test : ℕ → 
               largest-passed test (sumFrom top) n i (path-first n R i c (h .0)) (T-true (test i) (h .1 .0)),
             )
 
--- over all places
+-- the test that passes everywhere
 abbrev pub every : ℕ → Bool
 every i = true
 
+-- every place passes
 pub all-every : (c : List ℕ) → All every c
 all-every [] = tt
 all-every (i ∷ c) = (tt, all-every c)
 
+-- the largest over paths of places that all pass is the path bound
 pub largest-path : (n : ℕ) (R : ℕ → ℕ → Bool) (S : ℕ → ℕ) (r : ℕ)
     → Largest (λ c. Path n R c × All every c) (weight S) r → Largest (Path n R) (weight S) r
 largest-path n R S r bound =

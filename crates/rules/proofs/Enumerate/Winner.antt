@@ -14,12 +14,15 @@ use Rattle.rules.proofs.Numbers.{either, never}
 abbrev pub ahead : ℕ → ℕ → Bool → Bool
 ahead x y test = ltb x y || (eqb x y && test)
 
+-- a lower number is ahead
 pub ahead-less : (x y : ℕ) (test : Bool) → x < y → ahead x y test ≡ true
 ahead-less x y test h = rw (lt-ltb x y h)
 
+-- an equal one is where the test passes
 pub ahead-same : (x y : ℕ) (test : Bool) → x ≡ y → test ≡ true → ahead x y test ≡ true
 ahead-same x y test e t = rw (le-ltb x y (omega arith), eq-eqb x y e) t
 
+-- and only in these two ways
 pub ahead-cases {ℓ} : {A : Type ℓ} (x y : ℕ) (test : Bool) → ahead x y test ≡ true → (x < y → A) → (x ≡ y → test ≡ true → A) → A
 ahead-cases x y test h lower equal =
     either (ltb x y)
@@ -29,6 +32,7 @@ ahead-cases x y test h lower equal =
     (λ e. equal (eqb-true x y e) (rw (l, e) at h))
     (λ e. never false (rw (l, e) at h) refl))
 
+-- the same of a number that is not ahead
 pub behind-cases {ℓ} : {A : Type ℓ} (x y : ℕ) (test : Bool) → ahead x y test ≡ false → (y < x → A) → (x ≡ y → test ≡ false → A) → A
 behind-cases x y test h higher equal =
     either (ltb x y)
@@ -44,6 +48,7 @@ notAfter [] t = true
 notAfter (a ∷ s) [] = false
 notAfter (a ∷ s) (b ∷ t) = ahead a b (notAfter s t)
 
+-- of two lists one does not come after the other
 pub notAfter-either : (s t : List ℕ) → notAfter s t ≡ false → notAfter t s ≡ true
 unfolding notAfter
 notAfter-either [] t h = never true refl h
@@ -53,6 +58,7 @@ notAfter-either (a ∷ s) (b ∷ t) h =
     (λ l. ahead-less b a (notAfter t s) l)
     (λ e f. ahead-same b a (notAfter t s) (sym e) (notAfter-either s t f))
 
+-- where s does not come after t, nor t after u, s does not come after u
 pub notAfter-through : (s t u : List ℕ) → notAfter s t ≡ true → notAfter t u ≡ true → notAfter s u ≡ true
 unfolding notAfter
 notAfter-through [] t u p q = refl
@@ -85,6 +91,7 @@ module _ (S id : ℕ → ℕ) where
   unfoldable pub wins : List ℕ → List ℕ → Bool
   wins c d = ahead (weight S d) (weight S c) (notAfter (map id c) (map id d))
 
+  -- of two lists one wins
   pub wins-either : (c d : List ℕ) → wins c d ≡ false → wins d c ≡ true
   unfolding wins
   wins-either c d h =
@@ -94,9 +101,11 @@ module _ (S id : ℕ → ℕ) where
       ahead-same (weight S c) (weight S d) (notAfter (map id d) (map id c)) (sym e)
       (notAfter-either (map id c) (map id d) f))
 
+  -- a list wins over itself
   pub wins-itself : (c : List ℕ) → wins c c ≡ true
   wins-itself c = either (wins c c) (λ t. t) (λ t. wins-either c c t)
 
+  -- where c wins over d, and d over e, c wins over e
   pub wins-through : (c d e : List ℕ) → wins c d ≡ true → wins d e ≡ true → wins c e ≡ true
   unfolding wins
   wins-through c d e p q =
@@ -126,6 +135,7 @@ module _ (S id : ℕ → ℕ) where
   unfoldable pub winner : List ℕ → List ℕ → List ℕ
   winner c d = cond (wins c d) c d
 
+  -- it wins over both
   pub winner-left : (c d : List ℕ) → wins (winner c d) c ≡ true
   unfolding winner
   winner-left c d = either (wins c d) (λ t. rw t (wins-itself c)) (λ t. rw t (wins-either c d t))
@@ -139,6 +149,7 @@ module _ (S id : ℕ → ℕ) where
   winnerTo f test zero = []
   winnerTo f test (suc m) = cond (test m) (winner (f m) (winnerTo f test m)) (winnerTo f test m)
 
+  -- it wins over the empty list, and over each of the others
   pub winnerTo-empty : (f : ℕ → List ℕ) (test : ℕ → Bool) (m : ℕ) → wins (winnerTo f test m) [] ≡ true
   unfolding winnerTo
   winnerTo-empty f test zero = wins-itself []

@@ -58,17 +58,19 @@ sumTo-longer f p (suc m) h =
     rw e (omega arith))
     (λ t. omega (arith, sumTo-longer f p m (ltb-false m p t)))
 
--- priorities rise along a path, so that it has at most one task at each: with what the levels below its first task hold,
--- it weighs at most what all levels hold
+-- priorities rise along a path, so that it has at most one task at each: together with what the levels below its first
+-- task hold, it weighs at most what all levels hold
 module _ (n : ℕ) (R : ℕ → ℕ → Bool) (S P level : ℕ → ℕ) (top : ℕ)
     (rises : (i j : ℕ) → T (R i j) → P i < P j)
     (inside : (i : ℕ) → i < n → (S i ≤ level (P i)) × (P i < top)) where
+  -- a path that starts at i
   climb : (i : ℕ) (c : List ℕ) → Path n R (i ∷ c) → weight S (i ∷ c) + sumTo level (P i) ≤ sumTo level top
   unfolding sumTo
   climb i [] h = omega (arith, inside i h, sumTo-longer level (suc (P i)) top (inside i h .1))
   climb i (j ∷ c) h =
       omega (arith, inside i (h .0), sumTo-longer level (suc (P i)) (P j) (rises i j (h .1)), climb j c (h .2))
 
+  -- so that no path weighs more than all levels
   pub path-climbs : (c : List ℕ) → Path n R c → weight S c ≤ sumTo level top
   path-climbs [] h = omega arith
   path-climbs (i ∷ c) h = omega (arith, climb i c h)
