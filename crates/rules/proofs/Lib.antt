@@ -4,3 +4,6 @@ pub mod Bytes
 pub mod Blocks
 pub mod Refusals
 pub mod Image
+pub mod FourBounds
+pub mod Enumerate
+pub mod Cases

@@ -1,0 +1,91 @@
+-- Cases 1 to 11 of "On both sides", as one table with one theorem over it.
+use Prim.Native.Nat.{ℕ, _/_, _%_}
+use mathlib.Core.List.{List, [], _∷_, _++_}
+use mathlib.Core.Bool.{true, false}
+use lib.ListN.{set, replicate}
+use Rattle.rules.specs.Numbers.{sumTo, largestTo, upTo, lowest, blank}
+use Rattle.rules.specs.Records.{ofKind, formWrong, rangeWrong, tooMany, referenceWrong}
+use Rattle.rules.specs.Preempt.{mayPreempt, barred, decided, mapFrom}
+use Rattle.rules.specs.Chains.{related}
+use Rattle.rules.specs.Patches.{same, has, takenOut, putIn, without, put, touched, carried}
+use Rattle.rules.specs.Refusals.{recordsVerdict}
+use Rattle.rules.proofs.Enumerate.{figures}
+use Rattle.rules.proofs.Enumerate.Paths.{pathSum, sumFrom}
+use Rattle.rules.proofs.Enumerate.Winner.{notAfter, wins, winner, winnerTo}
+use Rattle.rules.proofs.Enumerate.Chains.{heaviest}
+use Rattle.rules.proofs.Cases.Entries.{shownAs, Case, AllHold}
+use Rattle.rules.proofs.Cases.Entries.Case.{preempted, shown, patched}
+use Rattle.rules.proofs.Cases.Tests.{all-hold}
+pub mod Entries
+pub mod Tests
+
+-- a number as two and as four bytes, little-endian
+abbrev pub twoBytes : ℕ → List ℕ
+twoBytes x = x % 256 ∷ x / 256 ∷ []
+
+abbrev pub fourBytes : ℕ → List ℕ
+fourBytes x = twoBytes (x % 65536) ++ twoBytes (x / 65536)
+
+-- a transaction's record: its number and period
+abbrev pub transaction : ℕ → ℕ → List ℕ
+transaction number period = (1 ∷ 0 ∷ twoBytes number) ++ (replicate 4 0 ++ (fourBytes period ++ replicate 20 0))
+
+-- a task's record: id, transaction, offset O, priority P, jitter J, response R and stack S
+abbrev pub task : ℕ → ℕ → ℕ → ℕ → ℕ → ℕ → ℕ → List ℕ
+task id number O P J R S =
+    (2 ∷ 0 ∷ twoBytes id)
+    ++ (twoBytes number ++ (twoBytes P ++ (fourBytes O ++ (fourBytes J ++ (fourBytes R ++ (twoBytes S ++ replicate 10 0))))))
+
+-- a one-way pair's and a precedence pair's record: the two tasks
+abbrev pub oneWay : ℕ → ℕ → List ℕ
+oneWay first second = (3 ∷ 0 ∷ twoBytes first) ++ (twoBytes second ++ replicate 26 0)
+
+abbrev pub precedence : ℕ → ℕ → List ℕ
+precedence first second = set (oneWay first second) 1 1
+
+-- a patch's record that puts this one in
+abbrev pub puts : List ℕ → List ℕ
+puts r = set r 31 1
+
+-- tasks 1 and 2, of one transaction, where the second has the higher priority: O_i, R_i, O_j, J_j
+abbrev pub together : ℕ → ℕ → ℕ → ℕ → List (List ℕ)
+together Oi Ri Oj Jj = transaction 1 10000 ∷ task 1 1 Oi 1 0 Ri 1 ∷ task 2 1 Oj 2 Jj Oj 1 ∷ []
+
+-- tasks 1 and 2, of two transactions, where the first has priority 1: P_j, and the pairs
+abbrev pub asunder : ℕ → List (List ℕ) → List (List ℕ)
+asunder Pj pairs = transaction 1 10000 ∷ transaction 2 10000 ∷ task 1 1 0 1 0 0 1 ∷ task 2 2 0 Pj 0 0 1 ∷ pairs
+
+-- the six tasks of the paper's figure 2
+abbrev pub figure2 : List (List ℕ)
+figure2 =
+    transaction 1 10000
+    ∷ transaction 2 10000
+    ∷ task 11 1 0 1 0 3854 4
+    ∷ task 12 1 1697 2 0 3837 1
+    ∷ task 13 1 4635 4 0 4781 2
+    ∷ task 21 2 0 3 0 393 2
+    ∷ task 22 2 617 1 0 3854 1
+    ∷ task 23 2 2588 3 0 3699 3
+    ∷ []
+
+-- cases 1 to 10 in their order, figure 2 itself, and case 11
+abbrev pub cases : List Case
+cases =
+    preempted (together 617 2588 2588 0) 0 1 false
+    ∷ preempted (together 617 2589 2588 0) 0 1 true
+    ∷ preempted (together 617 617 0 617) 0 1 false
+    ∷ preempted (together 617 617 0 618) 0 1 true
+    ∷ preempted (together 0 10000 0 0) 0 1 false
+    ∷ preempted (together 0 10001 0 0) 0 1 true
+    ∷ preempted (asunder 1 []) 0 1 false
+    ∷ preempted (asunder 2 []) 0 1 true
+    ∷ preempted (asunder 2 (oneWay 2 1 ∷ [])) 0 1 true
+    ∷ preempted (asunder 2 (precedence 2 1 ∷ [])) 0 1 false
+    ∷ shown figure2 (shownAs 8 (11 ∷ 12 ∷ 23 ∷ []) 10 9 10)
+    ∷ patched figure2 (puts (oneWay 12 23) ∷ []) (shownAs 7 (11 ∷ 12 ∷ 21 ∷ []) 9 9 10) 2
+    ∷ []
+
+-- each of them holds of the definitions
+pub starred : AllHold cases
+unfolding sumTo largestTo upTo lowest blank ofKind formWrong rangeWrong tooMany referenceWrong mayPreempt barred decided mapFrom related same has takenOut putIn without put touched carried recordsVerdict figures pathSum sumFrom notAfter wins winner winnerTo heaviest
+starred = all-hold cases tt

@@ -1,0 +1,198 @@
+-- How the bounds of one table and one map are ordered: chain <= path <= levels, and chain <= transactions.
+use Prim.Native.Nat.{ℕ, zero, suc, _+_, _≤_, _<_}
+use mathlib.Core.List.{List, [], _∷_}
+use mathlib.Core.Bool.{Bool, true, false, cond, _&&_}
+use mathlib.Core.Path.{_≡_, refl, sym}
+use native.Mathlib.Omega.{arith}
+use borrow.Author.Tests.{ltb-true, ltb-false, eqb-true, eq-eqb}
+use lib.ListN.{length, getD}
+use lib.Dec.{T, ltb, eqb}
+use Rattle.rules.specs.Numbers.{sumTo, largestTo}
+use Rattle.rules.specs.Records.{taskCount, taskAt, transactions, numberOf, placeOf, listed}
+use Rattle.rules.specs.Preempt.{cell}
+use Rattle.rules.specs.Chains.{weight, Under, Chain, Path, All, Largest, related, sizeAt, priorityAt, inTransaction, TransactionBound, levelAt, levelBound}
+use Rattle.rules.proofs.Numbers.{either, never, largestTo-most, lowest-passes}
+
+-- a test that holds has the value true, and the other way round
+pub T-true : (b : Bool) → T b → b ≡ true
+T-true true t = refl
+T-true false t = absurd t
+
+pub true-T : (b : Bool) → b ≡ true → T b
+true-T true e = tt
+true-T false e = never false e refl
+
+-- a test of two halves passes where both do
+pub both : (a b : Bool) → T (a && b) → T a × T b
+both true b t = (tt, t)
+both false b t = absurd t
+
+pub both-pass : (a b : Bool) → T a → T b → T (a && b)
+both-pass true b s t = t
+both-pass false b s t = s
+
+-- every chain is a path
+pub chain-path : (n : ℕ) (R : ℕ → ℕ → Bool) (c : List ℕ) → Chain n R c → Path n R c
+chain-path n R [] h = tt
+chain-path n R (i ∷ []) h = h .0
+chain-path n R (i ∷ (j ∷ c)) h = (h .0, h .1 .0, chain-path n R (j ∷ c) (h .2))
+
+-- no chain weighs more than the path bound
+pub chain≤path : (n : ℕ) (R : ℕ → ℕ → Bool) (S : ℕ → ℕ) (r : ℕ) (c : List ℕ) → Largest (Path n R) (weight S) r → Chain n R c → weight S c ≤ r
+chain≤path n R S r c bound h = bound .most c (chain-path n R c h)
+
+-- so that the largest weight of a chain is at most the path bound
+pub largest-chain≤path : (n : ℕ) (R : ℕ → ℕ → Bool) (S : ℕ → ℕ) (q r : ℕ) → Largest (Chain n R) (weight S) q → Largest (Path n R) (weight S) r → q ≤ r
+largest-chain≤path n R S q r chains paths =
+    let (c, chain, same) = chains .reached in
+    omega (arith, chain≤path n R S r c paths chain, same)
+
+-- a sum over more numbers is no smaller
+pub sumTo-longer : (f : ℕ → ℕ) (p m : ℕ) → p ≤ m → sumTo f p ≤ sumTo f m
+unfolding sumTo
+sumTo-longer f p zero h = let e : p ≡ 0 = omega arith in rw e (omega arith)
+sumTo-longer f p (suc m) h =
+    either (ltb m p)
+    (λ t.
+    let e : p ≡ suc m = omega (arith, ltb-true m p t) in
+    rw e (omega arith))
+    (λ t. omega (arith, sumTo-longer f p m (ltb-false m p t)))
+
+-- priorities rise along a path, so that it has at most one task at each: together with what the levels below its first
+-- task hold, it weighs at most what all levels hold
+module _ (n : ℕ) (R : ℕ → ℕ → Bool) (S P level : ℕ → ℕ) (top : ℕ)
+    (rises : (i j : ℕ) → T (R i j) → P i < P j)
+    (inside : (i : ℕ) → i < n → (S i ≤ level (P i)) × (P i < top)) where
+  -- a path that starts at i
+  climb : (i : ℕ) (c : List ℕ) → Path n R (i ∷ c) → weight S (i ∷ c) + sumTo level (P i) ≤ sumTo level top
+  unfolding sumTo
+  climb i [] h = omega (arith, inside i h, sumTo-longer level (suc (P i)) top (inside i h .1))
+  climb i (j ∷ c) h =
+      omega (arith, inside i (h .0), sumTo-longer level (suc (P i)) (P j) (rises i j (h .1)), climb j c (h .2))
+
+  -- so that no path weighs more than all levels
+  pub path-climbs : (c : List ℕ) → Path n R c → weight S c ≤ sumTo level top
+  path-climbs [] h = omega arith
+  path-climbs (i ∷ c) h = omega (arith, climb i c h)
+
+-- what `related` asks: the first has lower priority
+pub related-rises : (rs : List (List ℕ)) (rows : List ℕ) (i j : ℕ) → T (related rs rows i j) → priorityAt rs i < priorityAt rs j
+unfolding related
+related-rises rs rows i j t =
+    let lower : Bool = ltb (priorityAt rs i) (priorityAt rs j) in
+    let places : Bool = ltb i (taskCount rs) && ltb j (taskCount rs) in
+    ltb-true (priorityAt rs i) (priorityAt rs j) (T-true lower (both lower (cell rows i j) (both places (lower && cell rows i j) t .1) .0))
+
+-- a task's size is at most what its level holds, and its level is one of those added up
+pub size-in-level : (rs : List (List ℕ)) (i : ℕ) → i < taskCount rs
+    → (sizeAt rs i ≤ levelAt rs (priorityAt rs i)) × (priorityAt rs i < largestTo (priorityAt rs) (taskCount rs) + 1)
+size-in-level rs i h = (
+  rw (eq-eqb (priorityAt rs i) (priorityAt rs i) refl) at (largestTo-most (λ k. cond (eqb (priorityAt rs k) (priorityAt rs i)) (sizeAt rs k) 0) (taskCount rs) i h),
+  omega (arith, largestTo-most (priorityAt rs) (taskCount rs) i h),
+)
+
+-- no path weighs more than the levels
+pub path≤levels : (rs : List (List ℕ)) (rows c : List ℕ) → Path (taskCount rs) (related rs rows) c → weight (sizeAt rs) c ≤ levelBound rs
+path≤levels rs rows =
+    path-climbs (taskCount rs) (related rs rows) (sizeAt rs) (priorityAt rs) (levelAt rs)
+    (largestTo (priorityAt rs) (taskCount rs) + 1) (related-rises rs rows) (size-in-level rs)
+
+-- the tasks of a list that pass a test, in its order
+pub own : (ℕ → Bool) → List ℕ → List ℕ
+own test [] = []
+own test (i ∷ c) = cond (test i) (i ∷ own test c) (own test c)
+
+module _ (n : ℕ) (R : ℕ → ℕ → Bool) (test : ℕ → Bool) where
+  -- those of a chain are a chain
+  own-under : (i : ℕ) (c : List ℕ) → Under n R i c → Under n R i (own test c)
+  unfolding own
+  own-under i [] h = tt
+  own-under i (j ∷ c) h =
+      either (test j) (λ t. rw t (h .0, own-under i c (h .1))) (λ t. rw t (own-under i c (h .1)))
+
+  own-chain : (c : List ℕ) → Chain n R c → Chain n R (own test c)
+  unfolding own
+  own-chain [] h = tt
+  own-chain (i ∷ c) h =
+      either (test i)
+      (λ t. rw t (h .0, own-under i c (h .1), own-chain c (h .2)))
+      (λ t. rw t (own-chain c (h .2)))
+
+-- and all of them pass the test
+own-all : (test : ℕ → Bool) (c : List ℕ) → All test (own test c)
+unfolding own
+own-all test [] = tt
+own-all test (i ∷ c) = either (test i) (λ t. rw t (true-T (test i) t, own-all test c)) (λ t. rw t (own-all test c))
+
+-- a sum whose terms are no smaller
+pub sumTo-least : (f g : ℕ → ℕ) (n : ℕ) → ((t : ℕ) → t < n → g t ≤ f t) → sumTo g n ≤ sumTo f n
+unfolding sumTo
+sumTo-least f g zero all = omega arith
+sumTo-least f g (suc n) all = omega (arith, all n (omega arith), sumTo-least f g n (λ t h. all t (omega arith)))
+
+-- and one of them larger by x
+pub sumTo-more : (f g : ℕ → ℕ) (n k x : ℕ) → ((t : ℕ) → g t ≤ f t) → k < n → g k + x ≤ f k → sumTo g n + x ≤ sumTo f n
+unfolding sumTo
+sumTo-more f g zero k x all h more = absurd (omega arith)
+sumTo-more f g (suc n) k x all h more =
+    either (ltb k n)
+    (λ t. omega (arith, all n, sumTo-more f g n k x all (ltb-true k n t) more))
+    (λ t.
+    let e : n ≡ k = omega (arith, ltb-false k n t) in
+    rw e (omega (arith, sumTo-least f g k (λ i l. all i))))
+
+-- a task adds its size to the tests that it passes, and takes nothing from the others
+own-adds : (S : ℕ → ℕ) (test : ℕ → Bool) (i : ℕ) (c : List ℕ) → weight S (own test c) ≤ weight S (own test (i ∷ c))
+unfolding own
+own-adds S test i c = either (test i) (λ t. rw t (omega arith)) (λ t. rw t (omega arith))
+
+own-adds-size : (S : ℕ → ℕ) (test : ℕ → Bool) (i : ℕ) (c : List ℕ) → test i ≡ true → weight S (own test c) + S i ≤ weight S (own test (i ∷ c))
+unfolding own
+own-adds-size S test i c t = rw t (omega arith)
+
+-- where every task of a chain passes one of m tests, what passes each of them weighs together at least as much as the chain
+weight-shared : (n : ℕ) (R : ℕ → ℕ → Bool) (S : ℕ → ℕ) (m : ℕ) (test : ℕ → ℕ → Bool) (c : List ℕ) → Chain n R c
+    → ((i : ℕ) → i < n → (t : ℕ) × (t < m) × (test t i ≡ true))
+    → weight S c ≤ sumTo (λ t. weight S (own (test t) c)) m
+weight-shared n R S m test [] h passes = omega arith
+weight-shared n R S m test (i ∷ c) h passes =
+    let (t, below, there) = passes i (h .0) in
+    omega (
+      arith,
+      weight-shared n R S m test c (h .2) passes,
+      sumTo-more (λ u. weight S (own (test u) (i ∷ c))) (λ u. weight S (own (test u) c)) m t (S i)
+          (λ u. own-adds S (test u) i c) below (own-adds-size S (test t) i c there),
+    )
+
+-- a task whose transaction is listed is in one of the transactions
+listed-in : (rs : List (List ℕ)) (i : ℕ) → listed (transactions rs) (taskAt rs i .transaction) ≡ true
+    → (t : ℕ) × (t < length (transactions rs)) × (inTransaction rs t i ≡ true)
+listed-in rs i h =
+    let x : ℕ = taskAt rs i .transaction in
+    let t : ℕ = placeOf (transactions rs) x in
+    let below : t < length (transactions rs) = ltb-true t (length (transactions rs)) h in
+    let there = lowest-passes (λ k. eqb (numberOf (getD (transactions rs) k [])) x) (length (transactions rs)) below in
+    (t, below, eq-eqb x (numberOf (getD (transactions rs) t [])) (sym (eqb-true (numberOf (getD (transactions rs) t [])) x there)))
+
+-- no chain weighs more than the transactions, where every task's transaction is listed
+pub chain≤transactions : (rs : List (List ℕ)) (rows : List ℕ) (r : ℕ) (c : List ℕ)
+    → ((i : ℕ) → i < taskCount rs → listed (transactions rs) (taskAt rs i .transaction) ≡ true)
+    → TransactionBound rs rows r → Chain (taskCount rs) (related rs rows) c → weight (sizeAt rs) c ≤ r
+chain≤transactions rs rows r c known bound h =
+    omega (
+      arith,
+      bound .total,
+      weight-shared (taskCount rs) (related rs rows) (sizeAt rs) m (inTransaction rs) c h (λ i l. listed-in rs i (known i l)),
+      sumTo-least (bound .each) (λ t. weight (sizeAt rs) (own (inTransaction rs t) c)) m part,
+    )
+  where
+    m : ℕ
+    m = length (transactions rs)
+
+    part : (t : ℕ) → t < m → weight (sizeAt rs) (own (inTransaction rs t) c) ≤ bound .each t
+    part t l =
+        bound .bound t l .most (own (inTransaction rs t) c) (
+          chain-path (taskCount rs) (related rs rows) (own (inTransaction rs t) c)
+              (own-chain (taskCount rs) (related rs rows) (inTransaction rs t) c h),
+          own-all (inTransaction rs t) c,
+        )
