@@ -80,11 +80,14 @@ transactionRight r = leb 1 (numberOf r) && between 1 (periodOf r) 1000000000
 abbrev pub nameRight : List ℕ → Bool
 nameRight r = leb 1 (numberOf r) && (leb 1 (secondOf r) && between 1 (le2 r 6) 255)
 
--- of a task: O, J (which may be missing) and R, which is from O on
+-- J alone may be missing
+abbrev pub jitterRight : ℕ → Bool
+jitterRight j = leb j 1000000000 || eqb j 4294967295
+
+-- of a task: O, J, and R from O on
 abbrev pub timeRight : List ℕ → Bool
 timeRight r =
-    leb (le4 r 8) 999999999
-    && ((leb (le4 r 12) 1000000000 || eqb (le4 r 12) 4294967295) && between (le4 r 8) (le4 r 16) 2000000000)
+    leb (le4 r 8) 999999999 && (jitterRight (le4 r 12) && between (le4 r 8) (le4 r 16) 2000000000)
 
 abbrev pub taskRight : List ℕ → Bool
 taskRight r = nameRight r && (timeRight r && leb 1 (le2 r 20))

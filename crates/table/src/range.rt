@@ -4,7 +4,7 @@ ghost use mathlib.Core.List.{[]};
 ghost use lib.ListN.{getD};
 ghost use Rattle.rules.specs.Numbers.{lowest};
 ghost use Rattle.rules.specs.Blocks.{records, recordCount};
-ghost use Rattle.rules.specs.Records.{transactionRight, nameRight, timeRight, taskRight, pairRight, rangeWrong};
+ghost use Rattle.rules.specs.Records.{transactionRight, nameRight, jitterRight, timeRight, taskRight, pairRight, rangeWrong};
 use image::bytes::byte_at;
 use image::bytes::four_bytes;
 use image::bytes::two_bytes;
@@ -41,6 +41,16 @@ fn is_name_right(fields: &[u8]) -> bool
     priority <= 255
 }
 
+// Whether a jitter is in range or missing.
+fn is_jitter_right(jitter: u32) -> bool
+    ensures { λ r. ⌜ r ≡ jitterRight jitter ⌝ }
+{
+    if jitter <= 1_000_000_000 {
+        return true;
+    }
+    jitter == 4_294_967_295
+}
+
 // Whether offset, jitter and response of a task are in range.
 fn is_time_right(fields: &[u8]) -> bool
     ensures { λ r. ⌜ r ≡ timeRight (now (fields .entry)) ⌝ }
@@ -49,11 +59,8 @@ fn is_time_right(fields: &[u8]) -> bool
     if 999_999_999 < offset {
         return false;
     }
-    let jitter = four_bytes(fields, 12);
-    if 1_000_000_000 < jitter {
-        if jitter != 4_294_967_295 {
-            return false;
-        }
+    if !is_jitter_right(four_bytes(fields, 12)) {
+        return false;
     }
     let response = four_bytes(fields, 16);
     if response < offset {

@@ -1,3 +1,4 @@
+use borrow.Author.Tests.{eq-eqb, ne-eqb, le-leb, lt-leb, not-true, not-false}
 use native.Mathlib.Omega.{arith}
 use borrow.Author.Needs.{needs}
 use Rattle.table.proofs.order.key.Statement.{statement}
@@ -38,10 +39,10 @@ add-result : tie.Need-add-result
 add-result c = search needs
 
 returns : tie.Need-returns
-returns c = search needs
+returns c = (rw (← c .before .before .before .byte-at .ensures .0, eq-eqb _ _ (c .before .if1 .taken), ← c .before .before .two-bytes .ensures .0, ← c .two-bytes2 .ensures .0), omega arith)
 
 returns-2 : tie.Need-returns-2
-returns-2 c = search needs
+returns-2 c = (rw (← c .before .before .byte-at .ensures .0, ne-eqb _ _ (c .if1 .left), ← c .before .two-bytes .ensures .0) (omega arith), omega arith)
 
 pub key-spec : {M : Type 1} → statement M
 key-spec =

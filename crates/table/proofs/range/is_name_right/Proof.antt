@@ -1,3 +1,4 @@
+use borrow.Author.Tests.{eq-eqb, ne-eqb, le-leb, lt-leb}
 use native.Mathlib.Omega.{arith}
 use borrow.Author.Needs.{needs}
 use Rattle.table.proofs.range.is_name_right.Statement.{statement}
@@ -10,22 +11,22 @@ two-bytes-requires : tie.Need-two-bytes-requires
 two-bytes-requires c κs = search needs
 
 returns : tie.Need-returns
-returns c = search needs
+returns c = rw (← c .before .two-bytes .ensures .0, lt-leb 1 _ (c .if1 .taken))
 
 two-bytes-requires-2 : tie.Need-two-bytes-requires-2
 two-bytes-requires-2 c κs = search needs
 
 returns-2 : tie.Need-returns-2
-returns-2 c = search needs
+returns-2 c = rw (← c .before .before .before .two-bytes .ensures .0, le-leb 1 _ (c .before .before .if1 .left), ← c .before .two-bytes2 .ensures .0, lt-leb 1 _ (c .if2 .taken))
 
 two-bytes-requires-3 : tie.Need-two-bytes-requires-3
 two-bytes-requires-3 c κs = search needs
 
 returns-3 : tie.Need-returns-3
-returns-3 c = search needs
+returns-3 c = rw (← c .before .before .before .before .before .two-bytes .ensures .0, le-leb 1 _ (c .before .before .before .before .if1 .left), ← c .before .before .before .two-bytes2 .ensures .0, le-leb 1 _ (c .before .before .if2 .left), ← c .before .two-bytes3 .ensures .0, lt-leb 1 _ (c .if3 .taken))
 
 returns-4 : tie.Need-returns-4
-returns-4 c = search needs
+returns-4 c = rw (← c .before .before .before .before .before .two-bytes .ensures .0, le-leb 1 _ (c .before .before .before .before .if1 .left), ← c .before .before .before .two-bytes2 .ensures .0, le-leb 1 _ (c .before .before .if2 .left), ← c .before .two-bytes3 .ensures .0, le-leb 1 _ (c .if3 .left))
 
 pub is-name-right-spec : {M : Type 1} → statement M
 is-name-right-spec =

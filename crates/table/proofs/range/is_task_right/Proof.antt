@@ -1,3 +1,4 @@
+use borrow.Author.Tests.{not-true, not-false}
 use native.Mathlib.Omega.{arith}
 use borrow.Author.Needs.{needs}
 use Rattle.table.proofs.range.is_task_right.Statement.{statement}
@@ -12,19 +13,19 @@ is-name-right-requires : tie.Need-is-name-right-requires
 is-name-right-requires c κs = search needs
 
 returns : tie.Need-returns
-returns c = search needs
+returns c = rw (← c .before .is-name-right .ensures, not-true (c .before .is-name-right .result) (c .if1 .taken))
 
 is-time-right-requires : tie.Need-is-time-right-requires
 is-time-right-requires c κs = search needs
 
 returns-2 : tie.Need-returns-2
-returns-2 c = search needs
+returns-2 c = rw (← c .before .before .before .is-name-right .ensures, not-false (c .before .before .before .is-name-right .result) (c .before .before .if1 .left), ← c .before .is-time-right .ensures, not-true (c .before .is-time-right .result) (c .if2 .taken))
 
 two-bytes-requires : tie.Need-two-bytes-requires
 two-bytes-requires c κs = search needs
 
 returns-3 : tie.Need-returns-3
-returns-3 c = search needs
+returns-3 c = rw (← c .before .before .before .before .is-name-right .ensures, not-false (c .before .before .before .before .is-name-right .result) (c .before .before .before .if1 .left), ← c .before .before .is-time-right .ensures, not-false (c .before .before .is-time-right .result) (c .before .if2 .left), ← c .two-bytes .ensures .0)
 
 pub is-task-right-spec : {M : Type 1} → statement M
 is-task-right-spec =

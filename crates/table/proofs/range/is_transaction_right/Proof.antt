@@ -1,3 +1,4 @@
+use borrow.Author.Tests.{eq-eqb, ne-eqb, le-leb, lt-leb}
 use native.Mathlib.Omega.{arith}
 use borrow.Author.Needs.{needs}
 use Rattle.table.proofs.range.is_transaction_right.Statement.{statement}
@@ -11,16 +12,16 @@ two-bytes-requires : tie.Need-two-bytes-requires
 two-bytes-requires c κs = search needs
 
 returns : tie.Need-returns
-returns c = search needs
+returns c = rw (← c .before .two-bytes .ensures .0, lt-leb 1 _ (c .if1 .taken))
 
 four-bytes-requires : tie.Need-four-bytes-requires
 four-bytes-requires c κs = search needs
 
 returns-2 : tie.Need-returns-2
-returns-2 c = search needs
+returns-2 c = rw (← c .before .before .before .two-bytes .ensures .0, le-leb 1 _ (c .before .before .if1 .left), ← c .before .four-bytes .ensures, lt-leb 1 _ (c .if2 .taken))
 
 returns-3 : tie.Need-returns-3
-returns-3 c = search needs
+returns-3 c = rw (← c .before .before .before .two-bytes .ensures .0, le-leb 1 _ (c .before .before .if1 .left), ← c .before .four-bytes .ensures, le-leb 1 _ (c .if2 .left))
 
 pub is-transaction-right-spec : {M : Type 1} → statement M
 is-transaction-right-spec =

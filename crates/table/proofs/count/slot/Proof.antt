@@ -1,0 +1,44 @@
+use native.Mathlib.Omega.{arith}
+use borrow.Author.Needs.{needs}
+use Rattle.table.proofs.count.slot.Statement.{statement}
+use Rattle.table.proofs.count.slot.Tie as tie
+use Rattle.table.proofs.count.slot.Reads as reads
+use Rattle.table.proofs.count.slot.Lts as lts
+use Rattle.image.proofs.bytes.byte_at.Reads as byte-at-reads
+
+byte-at-requires : tie.Need-byte-at-requires
+byte-at-requires c κs = search needs
+
+returns : tie.Need-returns
+returns c = search needs
+
+byte-at-requires-2 : tie.Need-byte-at-requires-2
+byte-at-requires-2 c κs = search needs
+
+returns-2 : tie.Need-returns-2
+returns-2 c = search needs
+
+mul-result : tie.Need-mul-result
+mul-result c = search needs
+
+add-result : tie.Need-add-result
+add-result c = search needs
+
+cast-result : tie.Need-cast-result
+cast-result c = search needs
+
+returns-3 : tie.Need-returns-3
+returns-3 c = search needs
+
+pub slot-spec : {M : Type 1} → statement M
+slot-spec =
+    tie.close
+    (tie.spec
+    byte-at-requires
+    returns
+    byte-at-requires-2
+    returns-2
+    mul-result
+    add-result
+    cast-result
+    returns-3)
