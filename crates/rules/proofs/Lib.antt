@@ -4,3 +4,4 @@ pub mod Bytes
 pub mod Blocks
 pub mod Refusals
 pub mod Image
+pub mod Table

@@ -1,0 +1,2 @@
+-- What an accepted table gives: its records by kind, in order and in range, and the transactions and tasks that they name.
+pub mod Kinds
