@@ -1,7 +1,7 @@
 -- The records of one kind: how many they are, and where they stand in a list whose kinds are 1, 2, 3 and do not fall.
 use Prim.Native.Nat.{ℕ, zero, suc, _+_, _≤_, _<_}
 use mathlib.Core.List.{List, [], _∷_, _++_}
-use mathlib.Core.Bool.{Bool, true, false, cond, _&&_}
+use mathlib.Core.Bool.{cond, _&&_}
 use mathlib.Core.Path.{_≡_, refl, ap, sym, _∙_}
 use native.Mathlib.Nat.{add-assoc}
 use native.Mathlib.Omega.{arith}
@@ -65,7 +65,19 @@ kind-ofKind k (r ∷ rs) (suc i) h =
     (λ t. rw t (kind-ofKind k rs i (omega (arith, rw t at h))))
     (λ t. rw t (kind-ofKind k rs (suc i) (rw t at h)))
 
--- a list with no record of a kind
+-- what holds of each record of a list, also past its end, holds of each record of one kind
+pub ofKind-all {ℓ} : (P : List ℕ → Type ℓ) (k : ℕ) (rs : List (List ℕ)) → ((i : ℕ) → P (getD rs i [])) → (i : ℕ)
+    → P (getD (ofKind k rs) i [])
+unfolding ofKind
+ofKind-all P k [] h i = h i
+ofKind-all P k (r ∷ rs) h zero =
+    either (eqb (kindOf r) k) (λ t. rw t (h zero)) (λ t. rw t (ofKind-all P k rs (λ j. h (suc j)) zero))
+ofKind-all P k (r ∷ rs) h (suc i) =
+    either (eqb (kindOf r) k)
+    (λ t. rw t (ofKind-all P k rs (λ j. h (suc j)) i))
+    (λ t. rw t (ofKind-all P k rs (λ j. h (suc j)) (suc i)))
+
+-- where no record is of a kind, the list of those of that kind is empty
 pub ofKind-none : (k : ℕ) (rs : List (List ℕ)) → ((i : ℕ) → i < length rs → kindOf (getD rs i []) ≡ k → ⊥)
     → ofKind k rs ≡ []
 unfolding ofKind
@@ -95,23 +107,27 @@ ofKind-other : (k : ℕ) (r : List ℕ) (rs : List (List ℕ)) → (kindOf r ≡
 unfolding ofKind
 ofKind-other k r rs other = rw (ne-eqb (kindOf r) k other)
 
--- a transaction, a task or a pair in front of records of no lower kind
+-- one more record in front of a list that is split
 module _ (r : List ℕ) (rs : List (List ℕ)) (rest : Split rs) where
+  -- a transaction goes before all
   split-transaction : kindOf r ≡ 1 → Split (r ∷ rs)
   split-transaction e =
       rw (ofKind-same 1 r rs e, ofKind-other 2 r rs (λ o. omega arith), ofKind-other 3 r rs (λ o. omega arith))
       (ap (λ (l : List (List ℕ)). r ∷ l) rest)
 
+  -- a task goes before tasks and pairs
   split-task : kindOf r ≡ 2 → transactions rs ≡ [] → Split (r ∷ rs)
   split-task e none =
       rw (ofKind-other 1 r rs (λ o. omega arith), ofKind-same 2 r rs e, ofKind-other 3 r rs (λ o. omega arith), none)
       (ap (λ (l : List (List ℕ)). r ∷ l) (rw none at rest))
 
+  -- a pair goes before pairs
   split-pair : kindOf r ≡ 3 → transactions rs ≡ [] → tasks rs ≡ [] → Split (r ∷ rs)
   split-pair e none none′ =
       rw (ofKind-other 1 r rs (λ o. omega arith), ofKind-other 2 r rs (λ o. omega arith), ofKind-same 3 r rs e, none, none′)
       (ap (λ (l : List (List ℕ)). r ∷ l) (rw (none, none′) at rest))
 
+  -- a record of a known kind goes before records of no lower kind
   split-more : 1 ≤ kindOf r → kindOf r ≤ 3 → ((i : ℕ) → i < length rs → kindOf r ≤ kindOf (getD rs i [])) → Split (r ∷ rs)
   split-more least most after =
       let none-below : (k : ℕ) → k < kindOf r → ofKind k rs ≡ [] = λ k b. ofKind-none k rs (λ i l e. omega (arith, after i l)) in
@@ -136,21 +152,25 @@ split-of (r ∷ rs) known grouped =
     (known zero (omega arith) .1)
     (λ i l. grouped zero (suc i) (omega arith) (omega arith))
 
--- where the records of each kind stand in such a list
+-- how long such a list is, and where the records of each kind stand in it
 module _ (rs : List (List ℕ)) (split : Split rs) where
+  -- it has as many records as there are of the three kinds
   pub length-split : length rs ≡ length (transactions rs) + taskCount rs + length (pairs rs)
   length-split = omega (arith, simp length-append at (ap length split))
 
+  -- the transactions stand at its front
   pub transaction-at : (i : ℕ) → i < length (transactions rs) → getD rs i [] ≡ getD (transactions rs) i []
   transaction-at i h =
       ap (λ (l : List (List ℕ)). getD l i []) split ∙ List·getD-append (transactions rs) (tasks rs ++ pairs rs) [] i h
 
+  -- the tasks stand behind the transactions
   pub task-at : (i : ℕ) → i < taskCount rs → getD rs (length (transactions rs) + i) [] ≡ getD (tasks rs) i []
   task-at i h =
       ap (λ (l : List (List ℕ)). getD l (length (transactions rs) + i) []) split
       ∙ getD-append-add (transactions rs) (tasks rs ++ pairs rs) i []
       ∙ List·getD-append (tasks rs) (pairs rs) [] i h
 
+  -- the pairs stand behind the tasks
   pub pair-at : (i : ℕ) → i < length (pairs rs)
       → getD rs (length (transactions rs) + taskCount rs + i) [] ≡ getD (pairs rs) i []
   pair-at i h =
@@ -158,7 +178,7 @@ module _ (rs : List (List ℕ)) (split : Split rs) where
       ∙ rw add-assoc (getD-append-add (transactions rs) (tasks rs ++ pairs rs) (taskCount rs + i) [])
       ∙ getD-append-add (tasks rs) (pairs rs) i []
 
-  -- and of what kind they are
+  -- so the records at those places are of kind 1, 2 and 3
   pub transaction-kind : (i : ℕ) → i < length (transactions rs) → kindOf (getD rs i []) ≡ 1
   transaction-kind i h = rw (transaction-at i h) (kind-ofKind 1 rs i h)
 

@@ -19,10 +19,11 @@ use Rattle.rules.proofs.Table.Kinds.{Split, length-split, task-at, pair
 use Rattle.rules.proofs.Table.Order.{Rises}
 use Rattle.rules.proofs.Table.Shape.{Shape, shape-of}
 
--- a listed number has a place, and the record there has that number
+-- a listed number has a place
 pub place-below : (l : List (List ℕ)) (x : ℕ) → listed l x ≡ true → placeOf l x < length l
 place-below l x h = ltb-true (placeOf l x) (length l) h
 
+-- the record there has that number
 pub number-at-place : (l : List (List ℕ)) (x : ℕ) → listed l x ≡ true → numberOf (getD l (placeOf l x) []) ≡ x
 number-at-place l x h =
     eqb-true (numberOf (getD l (placeOf l x) [])) x
@@ -52,6 +53,7 @@ pub record Listed (rs : List (List ℕ)) : Type 0 where
 
 -- what it says of one task, and of one pair, that it is not found wrong
 module _ (rs : List (List ℕ)) (r : List ℕ) (right : referenceWrong rs r ≡ false) where
+  -- the test of a task, and of a pair
   of-task : kindOf r ≡ 2 → (not (listed (transactions rs) (secondOf r)) || not (ltb (le4 r 8) (periodIn rs (secondOf r)))) ≡ false
   unfolding referenceWrong
   of-task e = rw (eq-eqb (kindOf r) 2 e) at right
@@ -60,15 +62,18 @@ module _ (rs : List (List ℕ)) (r : List ℕ) (right : referenceWrong rs r ≡ 
   unfolding referenceWrong
   of-pair e = rw (ne-eqb (kindOf r) 2 (λ o. omega arith), eq-eqb (kindOf r) 3 e) at right
 
+  -- a task's transaction is listed
   task-transaction : kindOf r ≡ 2 → listed (transactions rs) (secondOf r) ≡ true
   task-transaction e =
       not-false (listed (transactions rs) (secondOf r)) (neither-first (not (listed (transactions rs) (secondOf r))) _ (of-task e))
 
+  -- its offset is below that transaction's period
   task-offset : kindOf r ≡ 2 → le4 r 8 < periodIn rs (secondOf r)
   task-offset e =
       ltb-true (le4 r 8) (periodIn rs (secondOf r))
       (not-false (ltb (le4 r 8) (periodIn rs (secondOf r))) (neither-second (not (listed (transactions rs) (secondOf r))) _ (of-task e)))
 
+  -- both tasks of a pair are listed
   pair-first : kindOf r ≡ 3 → listed (tasks rs) (numberOf r) ≡ true
   pair-first e = not-false (listed (tasks rs) (numberOf r)) (neither-first (not (listed (tasks rs) (numberOf r))) _ (of-pair e))
 
@@ -77,9 +82,11 @@ module _ (rs : List (List ℕ)) (r : List ℕ) (right : referenceWrong rs r ≡ 
 
 -- where refusal 8 finds no fault, all that the records name is listed
 module _ (rs : List (List ℕ)) (split : Split rs) (h : accepted (referenceRefusal rs) ≡ true) where
+  -- no record is found wrong
   right-at : (k : ℕ) → k < length rs → referenceWrong rs (getD rs k []) ≡ false
   right-at k l = no-fault-at 8 (λ j. referenceWrong rs (getD rs j [])) (length rs) (omega arith) h k l
 
+  -- no task, and no pair, is found wrong
   right-task : (i : ℕ) → i < taskCount rs → referenceWrong rs (getD (tasks rs) i []) ≡ false
   right-task i l =
       rw (← task-at rs split i l) (right-at (length (transactions rs) + i) (omega (arith, length-split rs split)))
@@ -88,6 +95,7 @@ module _ (rs : List (List ℕ)) (split : Split rs) (h : accepted (referenceRefus
   right-pair i l =
       rw (← pair-at rs split i l) (right-at (length (transactions rs) + taskCount rs + i) (omega (arith, length-split rs split)))
 
+  -- so all is listed
   pub listed-of : Listed rs
   listed-of =
       record {

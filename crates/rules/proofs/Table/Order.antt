@@ -1,14 +1,14 @@
 -- Table order: what a rising key says of kinds and numbers.
-use Prim.Native.Nat.{ℕ, zero, suc, _+_, _*_, _-_, _≤_, _<_}
+use Prim.Native.Nat.{ℕ, zero, suc, _-_, _≤_, _<_}
 use mathlib.Core.List.{List, []}
-use mathlib.Core.Bool.{Bool, true, false, cond, _&&_}
+use mathlib.Core.Bool.{false, cond}
 use mathlib.Core.Path.{_≡_}
 use native.Mathlib.Omega.{arith}
-use borrow.Author.Tests.{eqb-true, eqb-false, eq-eqb, ne-eqb, lt-ltb, ltb-true, ltb-false, leb-false}
+use borrow.Author.Tests.{ne-eqb, lt-ltb, ltb-true, ltb-false, leb-false}
 use lib.ListN.{length, getD}
-use lib.Dec.{eqb, ltb, leb}
-use Rattle.rules.specs.Numbers.{Bytes, le2}
-use Rattle.rules.specs.Records.{kindOf, numberOf, secondOf, wayOf, key, imageKey}
+use lib.Dec.{eqb, ltb}
+use Rattle.rules.specs.Numbers.{Bytes}
+use Rattle.rules.specs.Records.{kindOf, numberOf, secondOf, key, imageKey}
 use Rattle.rules.specs.Refusals.{orderWrong}
 use Rattle.rules.proofs.Numbers.{either}
 use Rattle.rules.proofs.Table.Ranges.{le2-small}

@@ -1,21 +1,21 @@
 -- What the range tests say of a record's fields, in plain numbers.
-use Prim.Native.Nat.{ℕ, _+_, _*_, _≤_, _<_}
+use Prim.Native.Nat.{ℕ, _+_, _≤_, _<_}
 use mathlib.Core.List.{List}
-use mathlib.Core.Bool.{Bool, true, false, cond, _&&_, _||_, not}
+use mathlib.Core.Bool.{true, false, _&&_, _||_, not}
 use mathlib.Core.Path.{_≡_, refl}
 use native.Mathlib.Omega.{arith}
-use borrow.Author.Tests.{leb-true, eqb-true, eqb-false, eq-eqb, ne-eqb, not-true, not-false}
-use lib.ListN.{getD}
+use borrow.Author.Tests.{leb-true, eqb-false, eq-eqb, ne-eqb, not-true, not-false}
 use lib.Dec.{leb, eqb}
 use Rattle.rules.specs.Numbers.{Bytes, le2, le4, between}
 use Rattle.rules.specs.Records.{kindOf, numberOf, secondOf, periodOf, jitterOf, sortOf, transactionRight, nameRight, timeRight, taskRight, pairRight, rangeWrong}
 use Rattle.rules.proofs.Numbers.{either, never}
 use Rattle.rules.proofs.Tests.{both-first, both-second}
 
--- a number of two bytes is below 65,536, and one of four below 4,294,967,296
+-- a number of two bytes is below 65,536
 pub le2-small : (s : List ℕ) → Bytes s → (k : ℕ) → le2 s k < 65536
 le2-small s bytes k = omega (arith, bytes k, bytes (k + 1))
 
+-- a number of four bytes is below 4,294,967,296
 pub le4-small : (s : List ℕ) → Bytes s → (k : ℕ) → le4 s k < 4294967296
 le4-small s bytes k = omega (arith, le2-small s bytes k, le2-small s bytes (k + 2))
 
@@ -49,6 +49,7 @@ pub record TransactionRanges (r : List ℕ) : Type 0 where
   pub some-period : 1 ≤ periodOf r
   pub most-period : periodOf r ≤ 1000000000
 
+-- a transaction that passes its test has them
 pub transaction-ranges : (r : List ℕ) → transactionRight r ≡ true → TransactionRanges r
 transaction-ranges r h =
     let period = both-second (leb 1 (numberOf r)) (between 1 (periodOf r) 1000000000) h in
@@ -77,6 +78,7 @@ jitter-most j h =
     (λ t. rw t (omega arith))
     (λ t. rw t (either (leb j 1000000000) (leb-true j 1000000000) (λ s. never false (rw (s, t) at h) refl)))
 
+-- a task that passes its test has them
 pub task-ranges : (r : List ℕ) → taskRight r ≡ true → TaskRanges r
 task-ranges r h =
     let name = both-first (nameRight r) (timeRight r && leb 1 (le2 r 20)) h in
@@ -105,6 +107,7 @@ pub record PairRanges (r : List ℕ) : Type 0 where
   pub some-second : 1 ≤ secondOf r
   pub different : numberOf r ≡ secondOf r → ⊥
 
+-- a pair that passes its test has them
 pub pair-ranges : (r : List ℕ) → pairRight r ≡ true → PairRanges r
 pair-ranges r h =
     let rest = both-second (leb (sortOf r) 1) _ h in

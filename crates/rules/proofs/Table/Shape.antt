@@ -1,23 +1,23 @@
 -- What refusals 4 to 7 leave of a table: the shape of its records.
-use Prim.Native.Nat.{ℕ, _+_, _*_, _≤_, _<_}
+use Prim.Native.Nat.{ℕ, _+_, _≤_, _<_}
 use mathlib.Core.List.{List, []}
-use mathlib.Core.Bool.{Bool, true, false, _||_, not}
-use mathlib.Core.Path.{_≡_, refl}
+use mathlib.Core.Bool.{true, false, not}
+use mathlib.Core.Path.{_≡_}
 use native.Mathlib.Omega.{arith}
 use borrow.Author.Tests.{ltb-true, ltb-false, not-false}
-use lib.ListN.{length, getD, take, drop, length-take, List·getD-eq-default}
+use lib.ListN.{length, getD, length-take, List·getD-eq-default}
 use lib.Dec.{ltb}
 use Rattle.rules.specs.declared.Form.the-variants.{Table}
 use Rattle.rules.specs.declared.Verdict.{Verdict}
 use Rattle.rules.specs.Numbers.{Bytes, between}
 use Rattle.rules.specs.Blocks.{recordStart, recordAt, recordCount, records}
-use Rattle.rules.specs.Records.{kindOf, numberOf, wayOf, key, imageKey, mostWay, mostOf, zeroBytes, formWrong, rangeWrong, transactionRight, taskRight, pairRight, transactions, tasks, pairs, taskCount, countOf, tooMany}
+use Rattle.rules.specs.Records.{ofKind, kindOf, numberOf, wayOf, key, imageKey, mostOf, zeroBytes, formWrong, rangeWrong, transactionRight, taskRight, pairRight, transactions, tasks, pairs, taskCount, countOf, tooMany}
 use Rattle.rules.specs.Refusals.{accepted, orElse, refuseIf, formRefusal, orderWrong, orderRefusal, rangeRefusal, countRefusal, recordsVerdict}
 use Rattle.rules.proofs.Numbers.{either, length-upTo, getD-upTo}
 use Rattle.rules.proofs.Bytes.{getD-part}
 use Rattle.rules.proofs.Tests.{neither-first, neither-second}
 use Rattle.rules.proofs.Refusals.{accepted-first, accepted-second, no-fault, no-fault-at}
-use Rattle.rules.proofs.Table.Kinds.{Known, Grouped, Split, split-of, length-split, transaction-at, task-at, pair-at, transaction-kind, task-kind, pair-kind, count-ofKind}
+use Rattle.rules.proofs.Table.Kinds.{Known, Grouped, Split, split-of, length-split, transaction-at, task-at, pair-at, transaction-kind, task-kind, pair-kind, count-ofKind, ofKind-all}
 use Rattle.rules.proofs.Table.Ranges.{between-least, between-most, transaction-right, task-right, pair-right}
 use Rattle.rules.proofs.Table.Order.{Rises, rises-of-next, order-right, kind-rises, number-rises}
 
@@ -27,6 +27,7 @@ pub record Shape (rs : List (List ℕ)) : Type 0 where
   pub few-transactions : length (transactions rs) ≤ 16
   pub few-tasks : taskCount rs ≤ 64
   pub few-pairs : length (pairs rs) ≤ 256
+  pub keys-rise : Rises key rs
   pub transactions-rise : Rises numberOf (transactions rs)
   pub tasks-rise : Rises numberOf (tasks rs)
   pub transactions-right : (i : ℕ) → i < length (transactions rs) → transactionRight (getD (transactions rs) i []) ≡ true
@@ -58,35 +59,41 @@ faultless-of rs h =
       counts = accepted-second (rangeRefusal Table rs) (countRefusal Table rs) rest′;
     }
 
--- a record of a table whose form is not found wrong is of a known kind, and has byte 31 at 0
+-- what it says of a table's record that its form is not found wrong
 module _ (r : List ℕ) (right : formWrong Table r ≡ false) where
+  -- it is a transaction, a task or a pair
   pub known-kind : between 1 (kindOf r) 3 ≡ true
   unfolding formWrong
   known-kind = not-false (between 1 (kindOf r) 3) (neither-first (not (between 1 (kindOf r) 3)) _ right)
 
-  pub no-way : wayOf r ≡ 0
+  -- its byte 31 is 0
+  pub way-zero : wayOf r ≡ 0
   unfolding formWrong
-  no-way =
+  way-zero =
       omega (arith, ltb-false 0 (wayOf r) (neither-second (not (zeroBytes r)) _ (neither-second (not (between 1 (kindOf r) 3)) _ right)))
 
--- a kind of which there are not found to be too many
+-- of a kind of which there are not found to be too many there are at most as many as allowed
 pub not-too-many : (rs : List (List ℕ)) (k : ℕ) → tooMany rs k ≡ false → countOf k 0 rs ≤ mostOf k
 unfolding tooMany
 not-too-many rs k h = ltb-false (mostOf k) (countOf k 0 rs) (neither-first (ltb (mostOf k) (countOf k 0 rs)) _ h)
 
 -- where refusal 7 finds no fault, there are not too many of any kind
 module _ (rs : List (List ℕ)) (h : accepted (countRefusal Table rs) ≡ true) where
+  -- refusal 7 for one kind
   refuse : ℕ → Verdict
   refuse k = refuseIf 7 k (tooMany rs k)
 
+  -- where it finds no fault, there are not too many of that kind
   few : (k : ℕ) → accepted (refuse k) ≡ true → countOf k 0 rs ≤ mostOf k
   unfolding refuse
   few k fine = not-too-many rs k (no-fault 7 k (tooMany rs k) (omega arith) fine)
 
+  -- tasks and pairs are counted after the transactions
   rest : accepted (orElse (refuse 2) (refuse 3)) ≡ true
   unfolding refuse
   rest = accepted-second (refuse 1) (orElse (refuse 2) (refuse 3)) h
 
+  -- at most 16 transactions, 64 tasks, 256 pairs
   pub count-transactions : countOf 1 0 rs ≤ 16
   unfolding refuse
   count-transactions = few 1 (accepted-first (refuse 1) (orElse (refuse 2) (refuse 3)) h)
@@ -99,28 +106,33 @@ module _ (rs : List (List ℕ)) (h : accepted (countRefusal Table rs) ≡ true) 
 
 -- faultless records of bytes have this shape
 module _ (rs : List (List ℕ)) (bytes : (k : ℕ) → Bytes (getD rs k [])) (f : Faultless rs) where
+  -- byte 31 is 0 throughout, also past the end
   ways : (k : ℕ) → wayOf (getD rs k []) ≡ 0
   ways k =
       either (ltb k (length rs))
-      (λ t. no-way (getD rs k []) (f .forms k (ltb-true k (length rs) t)))
+      (λ t. way-zero (getD rs k []) (f .forms k (ltb-true k (length rs) t)))
       (λ t. rw (List·getD-eq-default rs [] (ltb-false k (length rs) t)))
 
+  -- each kind is 1, 2 or 3
   known : Known rs
   known i l =
       let right = known-kind (getD rs i []) (f .forms i l) in
       (between-least 1 (kindOf (getD rs i [])) 3 right, between-most 1 (kindOf (getD rs i [])) 3 right)
 
+  -- with byte 31 at 0, the image's order is table order
   keys-rise : Rises key rs
   keys-rise i j b l =
       omega (arith, rises-of-next imageKey rs (λ k some m. order-right rs k (f .orders k m) some) i j b l, ways i, ways j)
 
+  -- so the kinds do not fall
   grouped : Grouped rs
   grouped i j b l = kind-rises (getD rs i []) (getD rs j []) (bytes j) (keys-rise i j b l)
 
+  -- and the list is its transactions, tasks and pairs
   split : Split rs
   split = split-of rs known grouped
 
-  -- where each record of a kind stands in the list
+  -- the place of each record of a kind is in the list
   transaction-here : (i : ℕ) → i < length (transactions rs) → i < length rs
   transaction-here i l = omega (arith, length-split rs split)
 
@@ -130,6 +142,7 @@ module _ (rs : List (List ℕ)) (bytes : (k : ℕ) → Bytes (getD rs k [])) (f 
   pair-here : (i : ℕ) → i < length (pairs rs) → length (transactions rs) + taskCount rs + i < length rs
   pair-here i l = omega (arith, length-split rs split)
 
+  -- the numbers of the transactions, and the ids of the tasks, rise
   transactions-rise : Rises numberOf (transactions rs)
   transactions-rise i j b l =
       let l′ : i < length (transactions rs) = omega arith in
@@ -145,6 +158,7 @@ module _ (rs : List (List ℕ)) (bytes : (k : ℕ) → Bytes (getD rs k [])) (f 
       (task-kind rs split i l′) (task-kind rs split j l) (omega arith)
       (keys-rise (length (transactions rs) + i) (length (transactions rs) + j) (omega arith) (task-here j l)))
 
+  -- the shape
   pub shape-of-faultless : Shape rs
   shape-of-faultless =
       record {
@@ -152,6 +166,7 @@ module _ (rs : List (List ℕ)) (bytes : (k : ℕ) → Bytes (getD rs k [])) (f 
         few-transactions = rw (← count-ofKind rs ways 1) (count-transactions rs (f .counts));
         few-tasks = rw (← count-ofKind rs ways 2) (count-tasks rs (f .counts));
         few-pairs = rw (← count-ofKind rs ways 3) (count-pairs rs (f .counts));
+        keys-rise = keys-rise;
         transactions-rise = transactions-rise;
         tasks-rise = tasks-rise;
         transactions-right =
@@ -183,6 +198,7 @@ record-bytes image bytes k j =
     let past : length (recordAt image k) ≤ j = simp length-take (omega (arith, ltb-false j 32 t)) in
     omega (arith, List·getD-eq-default (recordAt image k) 0 past))
 
+-- so are those of the list of its records, also past its end
 pub records-bytes : (image : List ℕ) → Bytes image → (k : ℕ) → Bytes (getD (records image) k [])
 records-bytes image bytes k =
     either (ltb k (recordCount image))
@@ -190,6 +206,10 @@ records-bytes image bytes k =
     (λ t.
     let past : length (records image) ≤ k = rw length-upTo (ltb-false k (recordCount image) t) in
     rw (List·getD-eq-default (records image) [] past) (λ j. omega arith))
+
+-- and those of one kind
+pub ofKind-bytes : (image : List ℕ) → Bytes image → (k i : ℕ) → Bytes (getD (ofKind k (records image)) i [])
+ofKind-bytes image bytes k i = ofKind-all Bytes k (records image) (records-bytes image bytes) i
 
 -- the records of an accepted image have this shape
 pub shape-of : (image : List ℕ) → Bytes image → accepted (recordsVerdict Table (records image)) ≡ true → Shape (records image)
