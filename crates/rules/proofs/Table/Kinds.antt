@@ -42,7 +42,7 @@ length-ofKind k rs =
     ap (λ (l : List (List ℕ)). length (ofKind k l)) (sym (upTo-elements [] rs))
     ∙ length-ofKind-upTo k (λ i. getD rs i []) (length rs)
 
--- where byte 31 is 0 throughout, those of one kind that refusal 7 counts are all of that kind
+-- where byte 31 is 0 throughout, what refusal 7 counts of a kind is how many records of that kind there are
 pub count-ofKind : (rs : List (List ℕ)) → ((k : ℕ) → wayOf (getD rs k []) ≡ 0) → (k : ℕ)
     → countOf k 0 rs ≡ length (ofKind k rs)
 count-ofKind rs ways k =
