@@ -4,6 +4,7 @@ pub mod Bytes
 pub mod Blocks
 pub mod Refusals
 pub mod Image
+pub mod Table
 pub mod FourBounds
 pub mod Enumerate
 pub mod Cases

@@ -1,0 +1,216 @@
+-- What refusals 4 to 7 leave of a table: the shape of its records.
+use Prim.Native.Nat.{ℕ, _+_, _≤_, _<_}
+use mathlib.Core.List.{List, []}
+use mathlib.Core.Bool.{true, false, not}
+use mathlib.Core.Path.{_≡_}
+use native.Mathlib.Omega.{arith}
+use borrow.Author.Tests.{ltb-true, ltb-false, not-false}
+use lib.ListN.{length, getD, length-take, List·getD-eq-default}
+use lib.Dec.{ltb}
+use Rattle.rules.specs.declared.Form.the-variants.{Table}
+use Rattle.rules.specs.declared.Verdict.{Verdict}
+use Rattle.rules.specs.Numbers.{Bytes, between}
+use Rattle.rules.specs.Blocks.{recordStart, recordAt, recordCount, records}
+use Rattle.rules.specs.Records.{ofKind, kindOf, numberOf, wayOf, key, imageKey, mostOf, zeroBytes, formWrong, rangeWrong, transactionRight, taskRight, pairRight, transactions, tasks, pairs, taskCount, countOf, tooMany}
+use Rattle.rules.specs.Refusals.{accepted, orElse, refuseIf, formRefusal, orderWrong, orderRefusal, rangeRefusal, countRefusal, recordsVerdict}
+use Rattle.rules.proofs.Numbers.{either, length-upTo, getD-upTo}
+use Rattle.rules.proofs.Bytes.{getD-part}
+use Rattle.rules.proofs.Tests.{neither-first, neither-second}
+use Rattle.rules.proofs.Refusals.{accepted-first, accepted-second, no-fault, no-fault-at}
+use Rattle.rules.proofs.Table.Kinds.{Known, Grouped, Split, split-of, length-split, transaction-at, task-at, pair-at, transaction-kind, task-kind, pair-kind, count-ofKind, ofKind-all}
+use Rattle.rules.proofs.Table.Ranges.{between-least, between-most, transaction-right, task-right, pair-right}
+use Rattle.rules.proofs.Table.Order.{Rises, rises-of-next, order-right, kind-rises, number-rises}
+
+-- the records of a table: transactions, tasks and pairs, not too many, in order and in range, with byte 31 at 0
+pub record Shape (rs : List (List ℕ)) : Type 0 where
+  pub split : Split rs
+  pub few-transactions : length (transactions rs) ≤ 16
+  pub few-tasks : taskCount rs ≤ 64
+  pub few-pairs : length (pairs rs) ≤ 256
+  pub keys-rise : Rises key rs
+  pub transactions-rise : Rises numberOf (transactions rs)
+  pub tasks-rise : Rises numberOf (tasks rs)
+  pub transactions-right : (i : ℕ) → i < length (transactions rs) → transactionRight (getD (transactions rs) i []) ≡ true
+  pub tasks-right : (i : ℕ) → i < taskCount rs → taskRight (getD (tasks rs) i []) ≡ true
+  pub pairs-right : (i : ℕ) → i < length (pairs rs) → pairRight (getD (pairs rs) i []) ≡ true
+  pub ways : (k : ℕ) → wayOf (getD rs k []) ≡ 0
+
+-- refusals 4 to 7 find no fault in these records
+pub record Faultless (rs : List (List ℕ)) : Type 0 where
+  pub forms : (k : ℕ) → k < length rs → formWrong Table (getD rs k []) ≡ false
+  pub orders : (k : ℕ) → k < length rs → orderWrong rs k ≡ false
+  pub ranges : (k : ℕ) → k < length rs → rangeWrong (getD rs k []) ≡ false
+  pub counts : accepted (countRefusal Table rs) ≡ true
+
+-- accepted records have none of these faults
+pub faultless-of : (rs : List (List ℕ)) → accepted (recordsVerdict Table rs) ≡ true → Faultless rs
+unfolding recordsVerdict
+faultless-of rs h =
+    let rest = accepted-second (formRefusal Table rs) (orElse (orderRefusal Table rs) (orElse (rangeRefusal Table rs) (countRefusal Table rs))) h in
+    let rest′ = accepted-second (orderRefusal Table rs) (orElse (rangeRefusal Table rs) (countRefusal Table rs)) rest in
+    record {
+      forms =
+          no-fault-at 4 (λ k. formWrong Table (getD rs k [])) (length rs) (omega arith)
+          (accepted-first (formRefusal Table rs) _ h);
+      orders = no-fault-at 5 (orderWrong rs) (length rs) (omega arith) (accepted-first (orderRefusal Table rs) _ rest);
+      ranges =
+          no-fault-at 6 (λ k. rangeWrong (getD rs k [])) (length rs) (omega arith)
+          (accepted-first (rangeRefusal Table rs) _ rest′);
+      counts = accepted-second (rangeRefusal Table rs) (countRefusal Table rs) rest′;
+    }
+
+-- what it says of a table's record that its form is not found wrong
+module _ (r : List ℕ) (right : formWrong Table r ≡ false) where
+  -- it is a transaction, a task or a pair
+  pub known-kind : between 1 (kindOf r) 3 ≡ true
+  unfolding formWrong
+  known-kind = not-false (between 1 (kindOf r) 3) (neither-first (not (between 1 (kindOf r) 3)) _ right)
+
+  -- its byte 31 is 0
+  pub way-zero : wayOf r ≡ 0
+  unfolding formWrong
+  way-zero =
+      omega (arith, ltb-false 0 (wayOf r) (neither-second (not (zeroBytes r)) _ (neither-second (not (between 1 (kindOf r) 3)) _ right)))
+
+-- of a kind of which there are not found to be too many there are at most as many as allowed
+pub not-too-many : (rs : List (List ℕ)) (k : ℕ) → tooMany rs k ≡ false → countOf k 0 rs ≤ mostOf k
+unfolding tooMany
+not-too-many rs k h = ltb-false (mostOf k) (countOf k 0 rs) (neither-first (ltb (mostOf k) (countOf k 0 rs)) _ h)
+
+-- where refusal 7 finds no fault, there are not too many of any kind
+module _ (rs : List (List ℕ)) (h : accepted (countRefusal Table rs) ≡ true) where
+  -- refusal 7 for one kind
+  refuse : ℕ → Verdict
+  refuse k = refuseIf 7 k (tooMany rs k)
+
+  -- where it finds no fault, there are not too many of that kind
+  few : (k : ℕ) → accepted (refuse k) ≡ true → countOf k 0 rs ≤ mostOf k
+  unfolding refuse
+  few k fine = not-too-many rs k (no-fault 7 k (tooMany rs k) (omega arith) fine)
+
+  -- tasks and pairs are counted after the transactions
+  rest : accepted (orElse (refuse 2) (refuse 3)) ≡ true
+  unfolding refuse
+  rest = accepted-second (refuse 1) (orElse (refuse 2) (refuse 3)) h
+
+  -- at most 16 transactions, 64 tasks, 256 pairs
+  pub count-transactions : countOf 1 0 rs ≤ 16
+  unfolding refuse
+  count-transactions = few 1 (accepted-first (refuse 1) (orElse (refuse 2) (refuse 3)) h)
+
+  pub count-tasks : countOf 2 0 rs ≤ 64
+  count-tasks = few 2 (accepted-first (refuse 2) (refuse 3) rest)
+
+  pub count-pairs : countOf 3 0 rs ≤ 256
+  count-pairs = few 3 (accepted-second (refuse 2) (refuse 3) rest)
+
+-- faultless records of bytes have this shape
+module _ (rs : List (List ℕ)) (bytes : (k : ℕ) → Bytes (getD rs k [])) (f : Faultless rs) where
+  -- byte 31 is 0 throughout, also past the end
+  ways : (k : ℕ) → wayOf (getD rs k []) ≡ 0
+  ways k =
+      either (ltb k (length rs))
+      (λ t. way-zero (getD rs k []) (f .forms k (ltb-true k (length rs) t)))
+      (λ t. rw (List·getD-eq-default rs [] (ltb-false k (length rs) t)))
+
+  -- each kind is 1, 2 or 3
+  known : Known rs
+  known i l =
+      let right = known-kind (getD rs i []) (f .forms i l) in
+      (between-least 1 (kindOf (getD rs i [])) 3 right, between-most 1 (kindOf (getD rs i [])) 3 right)
+
+  -- with byte 31 at 0, the image's order is table order
+  keys-rise : Rises key rs
+  keys-rise i j b l =
+      omega (arith, rises-of-next imageKey rs (λ k some m. order-right rs k (f .orders k m) some) i j b l, ways i, ways j)
+
+  -- so the kinds do not fall
+  grouped : Grouped rs
+  grouped i j b l = kind-rises (getD rs i []) (getD rs j []) (bytes j) (keys-rise i j b l)
+
+  -- and the list is its transactions, tasks and pairs
+  split : Split rs
+  split = split-of rs known grouped
+
+  -- the place of each record of a kind is in the list
+  transaction-here : (i : ℕ) → i < length (transactions rs) → i < length rs
+  transaction-here i l = omega (arith, length-split rs split)
+
+  task-here : (i : ℕ) → i < taskCount rs → length (transactions rs) + i < length rs
+  task-here i l = omega (arith, length-split rs split)
+
+  pair-here : (i : ℕ) → i < length (pairs rs) → length (transactions rs) + taskCount rs + i < length rs
+  pair-here i l = omega (arith, length-split rs split)
+
+  -- the numbers of the transactions, and the ids of the tasks, rise
+  transactions-rise : Rises numberOf (transactions rs)
+  transactions-rise i j b l =
+      let l′ : i < length (transactions rs) = omega arith in
+      rw (← transaction-at rs split i l′, ← transaction-at rs split j l)
+      (number-rises (getD rs i []) (getD rs j []) 1 (transaction-kind rs split i l′) (transaction-kind rs split j l) (omega arith)
+      (keys-rise i j b (transaction-here j l)))
+
+  tasks-rise : Rises numberOf (tasks rs)
+  tasks-rise i j b l =
+      let l′ : i < taskCount rs = omega arith in
+      rw (← task-at rs split i l′, ← task-at rs split j l)
+      (number-rises (getD rs (length (transactions rs) + i) []) (getD rs (length (transactions rs) + j) []) 2
+      (task-kind rs split i l′) (task-kind rs split j l) (omega arith)
+      (keys-rise (length (transactions rs) + i) (length (transactions rs) + j) (omega arith) (task-here j l)))
+
+  -- the shape
+  pub shape-of-faultless : Shape rs
+  shape-of-faultless =
+      record {
+        split = split;
+        few-transactions = rw (← count-ofKind rs ways 1) (count-transactions rs (f .counts));
+        few-tasks = rw (← count-ofKind rs ways 2) (count-tasks rs (f .counts));
+        few-pairs = rw (← count-ofKind rs ways 3) (count-pairs rs (f .counts));
+        keys-rise = keys-rise;
+        transactions-rise = transactions-rise;
+        tasks-rise = tasks-rise;
+        transactions-right =
+            λ i l.
+            rw (← transaction-at rs split i l)
+            (transaction-right (getD rs i []) (f .ranges i (transaction-here i l)) (transaction-kind rs split i l));
+        tasks-right =
+            λ i l.
+            rw (← task-at rs split i l)
+            (task-right (getD rs (length (transactions rs) + i) []) (f .ranges (length (transactions rs) + i) (task-here i l)) (task-kind rs split i l));
+        pairs-right =
+            λ i l.
+            rw (← pair-at rs split i l)
+            (pair-right (getD rs (length (transactions rs) + taskCount rs + i) [])
+            (f .ranges (length (transactions rs) + taskCount rs + i) (pair-here i l)) (pair-kind rs split i l));
+        ways = ways;
+      }
+
+-- accepted records of bytes have this shape
+pub shape-of-records : (rs : List (List ℕ)) → ((k : ℕ) → Bytes (getD rs k [])) → accepted (recordsVerdict Table rs) ≡ true → Shape rs
+shape-of-records rs bytes h = shape-of-faultless rs bytes (faultless-of rs h)
+
+-- each record of an image of bytes is of bytes
+pub record-bytes : (image : List ℕ) → Bytes image → (k : ℕ) → Bytes (recordAt image k)
+record-bytes image bytes k j =
+    either (ltb j 32)
+    (λ t. rw (getD-part image (recordStart k) 32 j (ltb-true j 32 t)) (bytes (recordStart k + j)))
+    (λ t.
+    let past : length (recordAt image k) ≤ j = simp length-take (omega (arith, ltb-false j 32 t)) in
+    omega (arith, List·getD-eq-default (recordAt image k) 0 past))
+
+-- so are those of the list of its records, also past its end
+pub records-bytes : (image : List ℕ) → Bytes image → (k : ℕ) → Bytes (getD (records image) k [])
+records-bytes image bytes k =
+    either (ltb k (recordCount image))
+    (λ t. rw (getD-upTo (recordAt image) (recordCount image) k [] (ltb-true k (recordCount image) t)) (record-bytes image bytes k))
+    (λ t.
+    let past : length (records image) ≤ k = rw length-upTo (ltb-false k (recordCount image) t) in
+    rw (List·getD-eq-default (records image) [] past) (λ j. omega arith))
+
+-- and those of one kind
+pub ofKind-bytes : (image : List ℕ) → Bytes image → (k i : ℕ) → Bytes (getD (ofKind k (records image)) i [])
+ofKind-bytes image bytes k i = ofKind-all Bytes k (records image) (records-bytes image bytes) i
+
+-- the records of an accepted image have this shape
+pub shape-of : (image : List ℕ) → Bytes image → accepted (recordsVerdict Table (records image)) ≡ true → Shape (records image)
+shape-of image bytes h = shape-of-records (records image) (records-bytes image bytes) h
