@@ -9,7 +9,7 @@ use borrow.Author.Tests.{ltb-true, ltb-false, lt-ltb, le-ltb, eqb-true, eqb-fals
 use lib.ListN.{length, getD, length-append, List·getD-append}
 use lib.Seq.{getD-at}
 use lib.Dec.{ltb, leb, eqb}
-use Rattle.rules.specs.Numbers.{upTo, sumTo, largestTo, lowest, some, blank}
+use Rattle.rules.specs.Numbers.{upTo, sumTo, largestTo, countTo, lowest, some}
 
 -- either way of a test
 pub either {ℓ} : {P : Type ℓ} (b : Bool) → (b ≡ true → P) → (b ≡ false → P) → P
@@ -147,3 +147,24 @@ some-false test n e = le-ltb (lowest test n) n (omega arith)
 pub lowest-zero : (test : ℕ → Bool) → lowest test 0 ≡ 0
 unfolding lowest
 lowest-zero test = refl
+
+-- below 0 there is nothing to add up
+pub sumTo-zero : (f : ℕ → ℕ) → sumTo f 0 ≡ 0
+unfolding sumTo
+sumTo-zero f = refl
+
+-- one more number that passes the test, or fails it
+pub countTo-passes : (test : ℕ → Bool) (n : ℕ) → test n ≡ true → countTo test (n + 1) ≡ countTo test n + 1
+countTo-passes test n e = sumTo-step (λ k. cond (test k) 1 0) n ∙ rw e
+
+pub countTo-fails : (test : ℕ → Bool) (n : ℕ) → test n ≡ false → countTo test (n + 1) ≡ countTo test n
+countTo-fails test n e = sumTo-step (λ k. cond (test k) 1 0) n ∙ rw e (omega arith)
+
+-- no more numbers pass a test than there are
+pub countTo-le : (test : ℕ → Bool) (n : ℕ) → countTo test n ≤ n
+unfolding sumTo
+countTo-le test zero = omega arith
+countTo-le test (suc n) =
+    either (test n)
+    (λ t. rw t (omega (arith, countTo-le test n)))
+    (λ t. rw t (omega (arith, countTo-le test n)))

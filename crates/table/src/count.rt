@@ -1,9 +1,9 @@
 // Refusal 7: too many of a kind. In a patch those taken out and those put in are counted apart.
 ghost use mathlib.Core.Path.{_≡_};
-ghost use Prim.Native.Nat.{ℕ, _≤_, _<_, _+_, _*_};
-ghost use lib.ListN.{length, getD};
+ghost use Prim.Native.Nat.{_≤_, _<_};
+ghost use lib.ListN.{length};
 ghost use Rattle.rules.specs.Blocks.{records, recordCount};
-ghost use Rattle.rules.specs.Records.{countOf, mostOf, tooMany};
+ghost use Rattle.rules.specs.Records.{ofKind};
 ghost use Rattle.table.specs.Tally.{slotOf, Tallied};
 use image::bytes::byte_at;
 use image::records::record_at;
@@ -38,4 +38,20 @@ pub fn tally(image: &[u8]) -> [u32; 8]
         k += 1;
     }
     counts
+}
+
+// How many records an image has of a kind.
+pub fn count_kind(image: &[u8], kind: u32) -> usize
+    ensures { λ r. ⌜ (r ≡ length (ofKind kind (records (now (image .entry))))) × (r ≤ recordCount (now (image .entry))) ⌝ }
+{
+    let count = record_count(image);
+    let mut found: usize = 0;
+    let mut k: usize = 0;
+    while k < count {
+        if byte_at(record_at(image, k), 0) == kind {
+            found += 1;
+        }
+        k += 1;
+    }
+    found
 }

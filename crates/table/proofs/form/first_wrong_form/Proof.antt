@@ -46,7 +46,7 @@ returns c =
     let k = c .before .before .before .before .loop .k in
     let inside : k < recordCount image = omega (arith, c .before .before .before .before .before .record-count .ensures) in
     let here : fault (c .before .before .before .before .before .before .before .args .form) image k ≡ c .before .is-form-wrong .result =
-        ap (formWrong (c .before .before .before .before .before .before .before .args .form)) (getD-upTo (recordAt image) (recordCount image) k [] inside ∙ sym (c .before .before .record-at .ensures)) ∙ sym (c .before .is-form-wrong .ensures) in
+    ap (formWrong (c .before .before .before .before .before .before .before .args .form)) (getD-upTo (recordAt image) (recordCount image) k [] inside ∙ sym (c .before .before .record-at .ensures)) ∙ sym (c .before .is-form-wrong .ensures) in
     sym (lowest-here (fault (c .before .before .before .before .before .before .before .args .form) image) k (recordCount image) (c .before .before .before .before .loop .inv .1) (here ∙ c .if1 .taken) inside)
 
 add-k : tie.Need-add-k Inv-loop μ-loop
@@ -61,7 +61,7 @@ loop-again c =
     let k = c .before .before .before .before .loop .k in
     let inside : k < recordCount image = omega (arith, c .before .before .before .before .before .record-count .ensures) in
     let here : fault (c .before .before .before .before .before .before .before .args .form) image k ≡ c .before .is-form-wrong .result =
-        ap (formWrong (c .before .before .before .before .before .before .before .args .form)) (getD-upTo (recordAt image) (recordCount image) k [] inside ∙ sym (c .before .before .record-at .ensures)) ∙ sym (c .before .is-form-wrong .ensures) in
+    ap (formWrong (c .before .before .before .before .before .before .before .args .form)) (getD-upTo (recordAt image) (recordCount image) k [] inside ∙ sym (c .before .before .record-at .ensures)) ∙ sym (c .before .is-form-wrong .ensures) in
     (omega arith, lowest-more (fault (c .before .before .before .before .before .before .before .args .form) image) k (c .before .before .before .before .loop .inv .1) (here ∙ c .if1 .left))
 
 returns-2 : tie.Need-returns-2 Inv-loop μ-loop
