@@ -91,3 +91,31 @@ bits-at set (suc n) j h =
     (either (set n)
     (λ u. rw u (bit-added (bitsTo set n) n (bits-small set n)))
     (λ u. rw u (ap (λ (s : ℕ). bitAt s n) (add-zero (bitsTo set n)) ∙ bit-lacks (bitsTo set n) n (bits-small set n)))))
+
+-- one more bit that is set, or is not
+pub bits-more : (set : ℕ → Bool) (n : ℕ) → set n ≡ true → bitsTo set (n + 1) ≡ bitsTo set n + 2 ^ n
+bits-more set n e = sumTo-step (λ j. cond (set j) (2 ^ j) 0) n ∙ rw e
+
+pub bits-same : (set : ℕ → Bool) (n : ℕ) → set n ≡ false → bitsTo set (n + 1) ≡ bitsTo set n
+bits-same set n e = sumTo-step (λ j. cond (set j) (2 ^ j) 0) n ∙ rw e (add-zero (bitsTo set n))
+
+-- there is room for one more of 64 bits
+pub bits-room : (set : ℕ → Bool) (n : ℕ) → n < 64 → bitsTo set n + 2 ^ n < 18446744073709551616
+bits-room set n h =
+    let most : 2 ^ suc n ≤ 2 ^ 64 = pow-mono {j = 64} (omega arith) in
+    omega (arith, most, pow-suc 2 n, bits-small set n)
+
+-- where no bit is set from n on, those below n are all
+pub bits-end : (set : ℕ → Bool) (n m : ℕ) → n ≤ m → ((j : ℕ) → n ≤ j → set j ≡ false) → bitsTo set m ≡ bitsTo set n
+unfolding sumTo
+bits-end set n zero h none =
+    let e : n ≡ 0 = omega arith in
+    rw e
+bits-end set n (suc m) h none =
+    either (ltb m n)
+    (λ t.
+    let e : n ≡ suc m = omega (arith, ltb-true m n t) in
+    rw e)
+    (λ t.
+    let past = ltb-false m n t in
+    rw (none m past) (add-zero (bitsTo set m) ∙ bits-end set n m past none))

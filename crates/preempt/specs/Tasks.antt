@@ -1,8 +1,12 @@
--- What is read of a table's tasks.
-use Prim.Native.Nat.{ℕ}
+-- What is read of a table's tasks and pairs, and the decision from it.
+use Prim.Native.Nat.{ℕ, _<_}
 use mathlib.Core.List.{List}
+use mathlib.Core.Bool.{Bool}
 use mathlib.Core.Path.{_≡_}
+use lib.ListN.{length, getD}
+use Rattle.rules.specs.declared.Task.{Task}
 use Rattle.rules.specs.Records.{taskCount, taskAt, periodIn}
+use Rattle.rules.specs.Preempt.{mayPreempt, barred, cell}
 use Rattle.preempt.specs.Bits.{column}
 use Rattle.preempt.specs.declared.tasks.Tasks.{Tasks}
 
@@ -17,3 +21,25 @@ pub record TasksRead (rs : List (List ℕ)) (t : Tasks) : Type 0 where
   pub responses : t .responses ≡ column (taskCount rs) (λ i. taskAt rs i .response)
   pub sizes : t .sizes ≡ column (taskCount rs) (λ i. taskAt rs i .size)
   pub periods : t .periods ≡ column (taskCount rs) (λ i. periodIn rs (taskAt rs i .transaction))
+
+-- bit j of row i says that a pair forbids that the task at place i is preempted by the one at place j
+pub record BarredRead (rs : List (List ℕ)) (rows : List ℕ) : Type 0 where
+  pub size : length rows ≡ 64
+  pub right : (i j : ℕ) → i < taskCount rs → j < taskCount rs → cell rows i j ≡ barred rs (taskAt rs i .id) (taskAt rs j .id)
+
+-- the task at a place, as it was read
+abbrev pub taskIn : Tasks → ℕ → Task
+taskIn t i =
+    record {
+      id = getD (t .ids) i 0;
+      transaction = getD (t .transactions) i 0;
+      priority = getD (t .priorities) i 0;
+      offset = getD (t .offsets) i 0;
+      jitter = getD (t .jitters) i 0;
+      response = getD (t .responses) i 0;
+      size = getD (t .sizes) i 0;
+    }
+
+-- the decision for two places, from the tasks and the forbidden pairs as they were read
+unfoldable pub decidedBy : Tasks → List ℕ → ℕ → ℕ → Bool
+decidedBy t rows i j = mayPreempt (getD (t .periods) i 0) (cell rows i j) (taskIn t i) (taskIn t j)
