@@ -37,7 +37,7 @@ fn change_byte(random: &mut Random, block: &mut [u8], from: usize, to: usize) {
 
 /// Sets a byte of a place that holds no record, or of the fill where every place holds one.
 fn fill_unused_place(random: &mut Random, block: &mut [u8]) {
-    let first_unused = FIRST_PLACE_AT + RECORD_BYTES * usize::from(block[RECORD_COUNT_AT]);
+    let first_unused = end_of_records(block);
     let at = match random.rank(3) {
         0 => first_unused,
         _ => random.count(first_unused, FILL_AT),
@@ -48,16 +48,22 @@ fn fill_unused_place(random: &mut Random, block: &mut [u8]) {
 /// Writes another number of records, one that is wrong in itself or one that leaves records over.
 fn change_count(random: &mut Random, block: &mut [u8], is_last: bool) {
     let right = block[RECORD_COUNT_AT];
-    let one_less = right.saturating_sub(1);
+    let (one_less, one_more) = (right.saturating_sub(1), right.saturating_add(1));
     let empties_place = is_last && random.one_in(3);
     block[RECORD_COUNT_AT] = match empties_place {
         true => 0,
-        false => random.pick(&[0, 14, 16, 255, one_less, right + 1]),
+        false => random.pick(&[0, 14, 16, 255, one_less, one_more]),
     };
-    let kept = usize::from(block[RECORD_COUNT_AT]).min(RECORDS_PER_BLOCK);
     if empties_place || random.one_in(2) {
-        block[FIRST_PLACE_AT + RECORD_BYTES * kept..FILL_AT].fill(0);
+        let end = end_of_records(block);
+        block[end..FILL_AT].fill(0);
     }
+}
+
+/// Where the records of a block end by its count, which may be damaged already.
+fn end_of_records(block: &[u8]) -> usize {
+    let records = usize::from(block[RECORD_COUNT_AT]).min(RECORDS_PER_BLOCK);
+    FIRST_PLACE_AT + RECORD_BYTES * records
 }
 
 /// Makes the check of one block wrong.

@@ -4,6 +4,7 @@ use crate::bytes::{put_u16, put_u32, u32_at};
 use crate::generate::random::Random;
 use crate::generate::tables::draw_sort;
 use crate::generate::task_values::draw_lone_task;
+use crate::record_faults::MOST_PERIOD;
 use crate::records::{
     Pair, Record, Transaction, NUMBER_AT, OFFSET_AT, PAIR, RESPONSE_AT, SECOND_AT, TASK,
     TRANSACTION,
@@ -67,7 +68,7 @@ fn raise_offset(random: &mut Random, records: &mut [Record]) {
     }
     let chosen = &mut records[tasks[random.low_or_high_rank(tasks.len())]];
     let period = table.period_of(chosen.second()).unwrap_or(1);
-    let offset = period + random.time(0, 1);
+    let offset = period.min(MOST_PERIOD) + random.time(0, 1);
     let response = u32_at(&chosen.0, RESPONSE_AT).max(offset);
     put_u32(&mut chosen.0, OFFSET_AT, offset);
     put_u32(&mut chosen.0, RESPONSE_AT, response);
@@ -95,24 +96,34 @@ pub fn one_too_many(random: &mut Random, records: &[Record]) -> Vec<Record> {
 pub fn unused_record(random: &mut Random, records: &[Record], kind: u8) -> Record {
     let table = Table::read(records);
     let number = unused_number(random, records, kind);
-    let any_transaction = Transaction {
-        number: 1,
-        period: random.time(1, 1000),
-    };
     match kind {
-        TRANSACTION => Transaction {
-            number,
-            ..any_transaction
+        TRANSACTION => {
+            let period = random.time(1, 1000);
+            Transaction { number, period }.record()
         }
-        .record(),
         TASK => {
-            let own = match table.transactions.is_empty() {
-                true => any_transaction,
-                false => random.pick(&table.transactions),
-            };
-            draw_lone_task(random, number, &own).record()
+            let transaction = some_transaction(random, &table);
+            draw_lone_task(random, number, &transaction).record()
         }
         _ => unused_pair(random, &table, number).record(),
+    }
+}
+
+/// A transaction of the table, or one that is not listed where it has none in range.
+fn some_transaction(random: &mut Random, table: &Table) -> Transaction {
+    let in_range = |transaction: &&Transaction| (1..=MOST_PERIOD).contains(&transaction.period);
+    let listed: Vec<Transaction> = table
+        .transactions
+        .iter()
+        .filter(in_range)
+        .copied()
+        .collect();
+    match listed.is_empty() {
+        true => Transaction {
+            number: 1,
+            period: 1000,
+        },
+        false => random.pick(&listed),
     }
 }
 
