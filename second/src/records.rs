@@ -100,6 +100,11 @@ impl Record {
         };
         (self.kind(), self.number(), second)
     }
+
+    /// Where the record belongs in the order of an image: all taken out before all put in.
+    pub fn order(&self) -> (u8, Key) {
+        (self.way(), self.key())
+    }
 }
 
 /// A transaction and its period.

@@ -2,7 +2,7 @@
 
 use crate::blocks::{check_is_right, frame_is_right, records_in, Form, BLOCK_BYTES};
 use crate::record_faults::{has_stray_byte, is_out_of_range};
-use crate::records::{Key, Pair, Record, Task, PAIR, PUT_IN, TAKEN_OUT, TASK, TRANSACTION};
+use crate::records::{Pair, Record, Task, PAIR, PUT_IN, TAKEN_OUT, TASK, TRANSACTION};
 use crate::table::Table;
 
 /// Why a call is refused, and where its fault lies.
@@ -84,9 +84,8 @@ fn refuse_first<Item>(
 
 /// Refuses 5 at the first record that is not after the one before it.
 pub fn refuse_disorder(records: &[Record]) -> Result<(), Refusal> {
-    let order = |record: &Record| -> (u8, Key) { (record.way(), record.key()) };
     refuse_first(5, records.iter(), |rank, record| {
-        rank > 0 && order(&records[rank - 1]) >= order(record)
+        rank > 0 && records[rank - 1].order() >= record.order()
     })
 }
 

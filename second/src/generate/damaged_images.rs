@@ -85,7 +85,7 @@ pub fn sound_records(random: &mut Random, form: Form) -> Vec<Record> {
 pub fn patch_records(taken_out: &[Record], put_in: &[Record]) -> Vec<Record> {
     let put_in = put_in.iter().map(|record| record.with_way(PUT_IN));
     let mut records: Vec<Record> = taken_out.iter().copied().chain(put_in).collect();
-    records.sort_by_key(|record| (record.way(), record.key()));
+    records.sort_by_key(Record::order);
     records
 }
 

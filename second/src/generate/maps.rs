@@ -1,11 +1,10 @@
 //! The maps that bound and patch calls read.
 
 use crate::generate::random::Random;
+use crate::generate::task_values::MANY_TASKS;
 use crate::preempt::{true_map, MAP_ROWS};
 use crate::table::Table;
 
-/// Tables with more tasks than this get a thin map when they have many priorities.
-const MANY_TASKS: usize = 30;
 /// More priorities than this are many.
 const MANY_PRIORITIES: usize = 10;
 

@@ -16,11 +16,11 @@ use crate::verdict::MOST_OF_KIND;
 pub fn misfit_a_record(random: &mut Random, records: &mut [Record]) {
     let misfit = random.pick(&[unlist_transaction, unlist_task, raise_offset, raise_offset]);
     misfit(random, records);
-    records.sort_by_key(|record| (record.way(), record.key()));
+    records.sort_by_key(Record::order);
 }
 
 /// The ranks of the records of this kind.
-fn ranks_of(records: &[Record], kind: u8) -> Vec<usize> {
+pub fn ranks_of(records: &[Record], kind: u8) -> Vec<usize> {
     (0..records.len())
         .filter(|rank| records[*rank].kind() == kind)
         .collect()

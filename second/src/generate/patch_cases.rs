@@ -63,10 +63,13 @@ impl PatchRun {
             _ => fitting_patch(random, &Table::read(&base)),
         };
         let case = self.roomy(random, &patch);
-        match sort {
-            5 | 6 => cramped(random, case),
-            7 | 8 => damaged(random, case),
+        let case = match sort {
+            5 | 6 => damaged(random, case),
             _ => case,
+        };
+        match sort == 7 || random.one_in(20) {
+            true => cramped(random, case),
+            false => case,
         }
     }
 

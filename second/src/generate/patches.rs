@@ -59,7 +59,7 @@ pub fn absent_record(random: &mut Random, base: &[Record]) -> Vec<Record> {
     };
     patch.retain(|record| record.way() != TAKEN_OUT || record.key() != absent.key());
     patch.push(absent);
-    patch.sort_by_key(|record| (record.way(), record.key()));
+    patch.sort_by_key(Record::order);
     patch
 }
 

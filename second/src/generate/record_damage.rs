@@ -76,7 +76,7 @@ fn too_many(random: &mut Random, form: Form, records: &mut Vec<Record>) {
     *records = one_way;
     records.extend(added.iter().map(|record| record.with_way(way)));
     records.extend(other_way);
-    records.sort_by_key(|record| (record.way(), record.key()));
+    records.sort_by_key(Record::order);
 }
 
 /// In a table a record that does not fit with the others; a patch has no such fault.

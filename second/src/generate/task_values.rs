@@ -13,8 +13,8 @@ pub struct Style {
     longest_period: u32,
 }
 
-/// Tables with more tasks than this mostly have few priorities.
-const MANY_TASKS: usize = 30;
+/// Tables with more tasks than this mostly have few priorities, and a thin map where they have many.
+pub const MANY_TASKS: usize = 30;
 
 impl Style {
     /// A style for a table of this many tasks.
