@@ -11,15 +11,27 @@ use second::verdict::records_of_table;
 
 const CASES: usize = 2000;
 
-/// How often each number is answered to cases of this call.
-fn numbers_of(call: Call) -> BTreeMap<u32, usize> {
+/// Number and place of the answers to cases of this call, each with how often it is given.
+fn verdicts_of(call: Call) -> BTreeMap<(u32, u32), usize> {
     let mut generator = Generator::from_seed(1);
-    let mut numbers = BTreeMap::new();
+    let mut verdicts = BTreeMap::new();
     for _ in 0..CASES {
         let line = answer(&mut generator.next_case(call));
-        let number = line.split(' ').nth(1).expect("a number");
-        let number = number.parse().expect("a decimal number");
-        *numbers.entry(number).or_insert(0) += 1;
+        let numbers: Vec<u32> = line
+            .split(' ')
+            .skip(1)
+            .map(|number| number.parse().expect("a decimal number"))
+            .collect();
+        *verdicts.entry((numbers[0], numbers[1])).or_insert(0) += 1;
+    }
+    verdicts
+}
+
+/// How often each number is answered to cases of this call.
+fn numbers_of(call: Call) -> BTreeMap<u32, usize> {
+    let mut numbers = BTreeMap::new();
+    for ((number, _), times) in verdicts_of(call) {
+        *numbers.entry(number).or_insert(0) += times;
     }
     numbers
 }
@@ -41,6 +53,29 @@ fn every_refusal_of_every_call_is_met() {
     assert_meets(Call::Map, (1..=8).chain([11]));
     assert_meets(Call::Bound, (1..=8).chain([11]));
     assert_meets(Call::Patch, (1..=11).chain(21..=27));
+}
+
+#[test]
+fn too_many_of_every_kind_are_met() {
+    for (call, number) in [(Call::TableVerdict, 7), (Call::PatchVerdict, 27)] {
+        let verdicts = verdicts_of(call);
+        assert!((1..=3).all(|kind| verdicts.contains_key(&(number, kind))));
+    }
+}
+
+#[test]
+fn refusals_are_met_at_low_and_high_places() {
+    for (call, numbers) in [(Call::TableVerdict, 2..=6), (Call::PatchVerdict, 22..=26)] {
+        let verdicts = verdicts_of(call);
+        for number in numbers {
+            let places: Vec<u32> = verdicts
+                .keys()
+                .filter(|(given, _)| *given == number)
+                .map(|(_, place)| *place)
+                .collect();
+            assert!(places[0] <= 1 && places[places.len() - 1] >= 4);
+        }
+    }
 }
 
 /// The stream of this seed over all calls.

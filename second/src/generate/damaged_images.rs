@@ -63,7 +63,7 @@ fn damaged_records(random: &mut Random, form: Form, damages: usize) -> Vec<Recor
 
 /// Sound records of every kind, and now and then as many as there may be.
 fn records_to_damage(random: &mut Random, form: Form) -> Vec<Record> {
-    let draw = match random.one_in(60) {
+    let draw = match random.one_in(40) {
         true => fullest_table,
         false => table_of_every_kind,
     };

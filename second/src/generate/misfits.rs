@@ -76,14 +76,7 @@ fn raise_offset(random: &mut Random, records: &mut [Record]) {
 
 /// The records that must be put in so that there is one of some kind too many.
 pub fn one_too_many(random: &mut Random, records: &[Record]) -> Vec<Record> {
-    let (kind, most) = random.pick(&[
-        MOST_OF_KIND[0],
-        MOST_OF_KIND[0],
-        MOST_OF_KIND[1],
-        MOST_OF_KIND[1],
-        MOST_OF_KIND[1],
-        MOST_OF_KIND[2],
-    ]);
+    let (kind, most) = random.pick(&MOST_OF_KIND);
     let mut all = records.to_vec();
     for _ in ranks_of(records, kind).len()..=most {
         let added = unused_record(random, &all, kind);
