@@ -9,7 +9,7 @@ use lib.Seq.{sets, sets-eq, paste-suc, getD-take, take-at, drop-at, drop-drop, d
 use Rattle.rules.specs.declared.Form.{Form}
 use Rattle.rules.specs.declared.Form.the-variants.{Table, Patch}
 use Rattle.rules.specs.Numbers.{upTo}
-use Rattle.rules.specs.Blocks.{mark, mostBlocks, checkOf, withCheck, joined, blocksFor, blockOf}
+use Rattle.rules.specs.Blocks.{mark, mostBlocks, checkOf, withCheck, joined, blockOf}
 use Rattle.rules.specs.Calls.{over}
 use Rattle.rules.proofs.Numbers.{length-upTo, upTo-ext, upTo-step}
 use Rattle.rules.proofs.Image.Parts.{Records, sized-upTo, length-joined, joined-append, joined-parts, part-upTo}
@@ -43,27 +43,40 @@ put-over done new l a k e f =
       append-assoc done new (drop (length done + k) l),
     )
 
+-- values stored one after another behind the values that are written already
+pub stored-over : (done new l : List ℕ) (a : ℕ) → length done ≡ a → a + length new ≤ length l → sets (over done l) a new ≡ over (done ++ new) l
+stored-over done new l a e h =
+    let long : length (over done l) ≡ length l = simp (length-append, length-drop) (omega arith) in
+    sets-eq new (over done l) a (omega arith)
+    ∙ rw (
+      take-at done (drop (length done) l) a e,
+      ← drop-drop (length new) a (over done l),
+      drop-at done (drop (length done) l) a e,
+      drop-drop (length new) (length done) l,
+      length-append done new,
+    )
+
+-- a mark is two bytes long
+length-mark : (form : Form) → length (mark form) ≡ 2
+length-mark Table = refl
+length-mark Patch = refl
+
+-- a header is eight bytes long
+length-header : (form : Form) (total b count : ℕ) → length (headerOf form total b count) ≡ 8
+length-header form total b count = rw (length-append, length-mark)
+
 -- the header's six bytes behind the mark
 pub header-stored : (form : Form) (total b count : ℕ) (l : List ℕ) → 8 ≤ length l
     → sets (over (mark form) l) 2 (b ∷ total ∷ count ∷ 0 ∷ 0 ∷ 0 ∷ []) ≡ over (headerOf form total b count) l
-header-stored Table total b count l h =
-    ap (λ rest. 84 ∷ 66 ∷ rest) (sets-eq (b ∷ total ∷ count ∷ 0 ∷ 0 ∷ 0 ∷ []) (drop 2 l) 0 (rw length-drop (omega arith))
-    ∙ ap (λ rest. b ∷ total ∷ count ∷ 0 ∷ 0 ∷ 0 ∷ rest) (drop-drop 6 2 l))
-header-stored Patch total b count l h =
-    ap (λ rest. 80 ∷ 65 ∷ rest) (sets-eq (b ∷ total ∷ count ∷ 0 ∷ 0 ∷ 0 ∷ []) (drop 2 l) 0 (rw length-drop (omega arith))
-    ∙ ap (λ rest. b ∷ total ∷ count ∷ 0 ∷ 0 ∷ 0 ∷ rest) (drop-drop 6 2 l))
-
--- a header is eight bytes long
-pub length-header : (form : Form) (total b count : ℕ) → length (headerOf form total b count) ≡ 8
-length-header Table total b count = refl
-length-header Patch total b count = refl
+header-stored form total b count l h = stored-over (mark form) (b ∷ total ∷ count ∷ 0 ∷ 0 ∷ 0 ∷ []) l 2 (length-mark form) h
 
 -- a part that lies within a list is as long as it says
-pub length-part : (s : List ℕ) (start size : ℕ) → start + size ≤ length s → length (take size (drop start s)) ≡ size
+length-part : (s : List ℕ) (start size : ℕ) → start + size ≤ length s → length (take size (drop start s)) ≡ size
 length-part s start size h = simp (length-take, length-drop) (omega arith)
 
--- header, records and zeros, written one after another, are the body of a block
+-- block b of total with the records of these bytes
 module _ (form : Form) (total b : ℕ) (flat : List ℕ) (few : length flat ≤ 480) where
+  -- its body is 510 bytes long
   pub length-body : length (bodyBytes form total b flat) ≡ 510
   length-body =
       rw (
@@ -73,26 +86,33 @@ module _ (form : Form) (total b : ℕ) (flat : List ℕ) (few : length flat ≤ 
         length-replicate,
       ) (omega arith)
 
-  pub body-written : (block : List ℕ) → length block ≡ 512
-      → (headed copied zeros : List ℕ)
+  -- where its records end
+  abbrev end : ℕ
+  end = 8 + length flat
+
+  -- the block with bytes copied behind its header
+  abbrev behindHeader : List ℕ → List ℕ → List ℕ
+  behindHeader headed copied = putMid 8 (end - 8) headed copied
+
+  -- header, records and zeros, written one after another, are its body
+  pub body-written : (block headed copied zeros : List ℕ)
       → headed ≡ over (headerOf form total b (length flat / 32)) block
       → length headed ≡ 512
-      → copied ≡ over flat (take (8 + length flat - 8) (drop 8 headed))
-      → zeros ≡ replicate (length (take (510 - (8 + length flat)) (drop (8 + length flat) (putMid 8 (8 + length flat - 8) headed copied)))) 0
-      → length (putMid 8 (8 + length flat - 8) headed copied) ≡ 512
-      → putMid (8 + length flat) (510 - (8 + length flat)) (putMid 8 (8 + length flat - 8) headed copied) zeros ≡ over (bodyBytes form total b flat) block
-  body-written block long headed copied zeros head same copy zero same′ =
-      let n = length flat in
-      let header = headerOf form total b (n / 32) in
-      let eight = length-header form total b (n / 32) in
-      let all : 8 + n - 8 ≡ n = omega arith in
-      let rest : 510 - (8 + n) ≡ 502 - n = omega arith in
-      let records : copied ≡ flat = copy ∙ over-all flat (take (8 + n - 8) (drop 8 headed)) (rw all (sym (length-part headed 8 n (omega arith)))) in
-      let filled : zeros ≡ replicate (502 - n) 0 = zero ∙ ap (λ k. replicate k 0) (length-part (putMid 8 (8 + n - 8) headed copied) (8 + n) (510 - (8 + n)) (omega arith) ∙ rest) in
-      let first : putMid 8 (8 + n - 8) headed copied ≡ over (header ++ flat) block = rw (head, records) (put-over header flat block 8 (8 + n - 8) eight (sym all)) in
-      rw (first, filled)
-      (put-over (header ++ flat) (replicate (502 - n) 0) block (8 + n) (510 - (8 + n)) (rw (length-append, eight)) (rw (length-replicate, rest))
-      ∙ ap (λ body. over body block) (append-assoc header flat (replicate (502 - n) 0)))
+      → copied ≡ over flat (take (end - 8) (drop 8 headed))
+      → length (behindHeader headed copied) ≡ 512
+      → zeros ≡ replicate (length (take (510 - end) (drop end (behindHeader headed copied)))) 0
+      → putMid end (510 - end) (behindHeader headed copied) zeros ≡ over (bodyBytes form total b flat) block
+  body-written block headed copied zeros head long copy longer zero =
+      let header = headerOf form total b (length flat / 32) in
+      let eight = length-header form total b (length flat / 32) in
+      let all : end - 8 ≡ length flat = omega arith in
+      let rest : 510 - end ≡ 502 - length flat = omega arith in
+      let records : copied ≡ flat = copy ∙ over-all flat (take (end - 8) (drop 8 headed)) (sym (length-part headed 8 (end - 8) (omega arith) ∙ all)) in
+      let fill : zeros ≡ replicate (502 - length flat) 0 = zero ∙ rw (length-part (behindHeader headed copied) end (510 - end) (omega arith), rest) in
+      let first : behindHeader headed copied ≡ over (header ++ flat) block = rw (head, records) (put-over header flat block 8 (end - 8) eight (sym all)) in
+      rw (first, fill)
+      (put-over (header ++ flat) (replicate (502 - length flat) 0) block end (510 - end) (rw (length-append, eight)) (rw (length-replicate, rest))
+      ∙ rw (append-assoc header flat (replicate (502 - length flat) 0)))
 
 -- the check of a block written into its last two bytes
 pub check-written : (block : List ℕ) → length block ≡ 512

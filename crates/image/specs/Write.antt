@@ -1,12 +1,12 @@
 -- Writing an image: the records lie one after another in a list of bytes, 32 bytes each.
-use Prim.Native.Nat.{ℕ, _+_, _*_, _-_, _/_, _%_}
+use Prim.Native.Nat.{ℕ, _*_, _-_, _/_, _%_}
 use mathlib.Core.List.{List, [], _∷_, _++_}
 use mathlib.Core.Bool.{Bool, cond, _&&_}
 use lib.ListN.{length, take, drop, replicate}
 use lib.Dec.{leb, eqb}
 use Rattle.rules.specs.declared.Form.{Form}
 use Rattle.rules.specs.Numbers.{upTo}
-use Rattle.rules.specs.Blocks.{mark, mostBlocks, blocksFor, withCheck, imageOf}
+use Rattle.rules.specs.Blocks.{mark, mostBlocks, blocksFor, imageOf}
 use Rattle.rules.specs.Calls.{over}
 
 -- the records that lie one after another in the bytes
@@ -37,7 +37,3 @@ headerOf form total b count = mark form ++ (b ∷ total ∷ count ∷ 0 ∷ 0 �
 -- the first 510 bytes of a block that holds the records of these bytes
 abbrev pub bodyBytes : Form → ℕ → ℕ → List ℕ → List ℕ
 bodyBytes form total b flat = headerOf form total b (length flat / 32) ++ (flat ++ replicate (502 - length flat) 0)
-
--- the bytes of the records that fall to block b
-abbrev pub flatOf : List ℕ → ℕ → List ℕ
-flatOf flat b = take 480 (drop (480 * b) flat)

@@ -1,16 +1,17 @@
 // Writes an image from records, block by block, straight into a lent room.
 ghost use mathlib.Core.Path.{_≡_};
-ghost use mathlib.Core.List.{_++_};
-ghost use mathlib.Core.Bool.{true};
-ghost use Prim.Native.Nat.{_+_, _*_, _%_, _/_, _≤_, max};
+ghost use Prim.Native.Nat.{_*_, _%_, _/_, _≤_};
 ghost use lib.ListN.{length, take, replicate};
 ghost use lib.Dec.{leb};
-ghost use Rattle.rules.specs.Blocks.{mark, mostBlocks, withCheck, imageOf};
+ghost use Rattle.rules.specs.Blocks.{mark, mostBlocks, blocksFor, withCheck, imageOf};
 ghost use Rattle.rules.specs.Calls.{over};
-ghost use Rattle.image.specs.Write.{cut, blocksOf, writable, writtenLength, writtenRoom, headerOf, bodyBytes};
+ghost use Rattle.image.specs.Write.{cut, blocksOf, writtenLength, writtenRoom, headerOf, bodyBytes};
 use crate::block::check_of;
 use crate::bytes::least;
 use rules::Form;
+
+// The bytes of a block's fifteen places.
+const PLACES_BYTES: usize = 480;
 
 // Copies all bytes of one part over the start of another.
 fn copy_bytes(from: &[u8], to: &mut [u8])
@@ -98,18 +99,24 @@ fn write_blocks(form: Form, records: &[u8], total: usize, room: &mut [u8])
 {
     let mut b: usize = 0;
     while b < total {
-        let from = 480 * b;
-        let to = least(from + 480, records.len());
+        let from = PLACES_BYTES * b;
+        let to = least(from + PLACES_BYTES, records.len());
         let start = rules::BLOCK_BYTES * b;
         let end = start + rules::BLOCK_BYTES;
-        write_block(form, total as u8, b as u8, &records[from..to], &mut room[start..end]);
+        write_block(
+            form,
+            total as u8,
+            b as u8,
+            &records[from..to],
+            &mut room[start..end],
+        );
         b += 1;
     }
 }
 
 // How many blocks records of this many bytes fill.
 fn blocks_of(bytes: usize) -> usize
-    ensures { λ r. ⌜ (r ≡ max 1 ((bytes / 32 + 14) / 15)) × (r ≤ bytes + 1) ⌝ }
+    ensures { λ r. ⌜ r ≡ blocksFor (bytes / 32) ⌝ }
 {
     let blocks = (bytes / rules::RECORD_BYTES + 14) / rules::RECORDS_PER_BLOCK;
     if blocks == 0 { 1 } else { blocks }

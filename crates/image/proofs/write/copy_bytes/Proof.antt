@@ -1,5 +1,5 @@
 -- Before each turn the first k bytes are those of the other part, and the rest is as it was.
-use Prim.Native.Nat.{ℕ, _-_, _≤_}
+use Prim.Native.Nat.{_-_, _≤_}
 use mathlib.Core.List.{_++_}
 use mathlib.Core.Path.{_≡_, refl, _∙_}
 use lib.ListN.{length, take, drop, length-set}
@@ -35,8 +35,7 @@ loop-again : tie.Need-loop-again Inv-loop μ-loop
 loop-again c =
     let from = c .before .before .before .args .from .now in
     let to = c .before .before .before .args .to .now in
-    let k = c .before .before .loop .k in
-    (
+    let k = c .before .before .loop .k in (
       omega arith,
       rw (c .before .before .loop .inv .1) (copied-more from to k (c .before .loop-test .taken) (c .before .before .before .pre)),
       rw length-set (c .before .before .loop .inv .2),

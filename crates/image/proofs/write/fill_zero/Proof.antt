@@ -1,5 +1,5 @@
 -- Before each turn the first k bytes are zero, and the rest is as it was.
-use Prim.Native.Nat.{ℕ, _-_, _≤_}
+use Prim.Native.Nat.{_-_, _≤_}
 use mathlib.Core.List.{_++_, append-nil}
 use mathlib.Core.Path.{_≡_, refl, _∙_}
 use lib.ListN.{length, drop, replicate, length-set}
@@ -31,8 +31,7 @@ loop-less c = search needs
 loop-again : tie.Need-loop-again Inv-loop μ-loop
 loop-again c =
     let part = c .before .before .args .part .now in
-    let k = c .before .loop .k in
-    (
+    let k = c .before .loop .k in (
       omega arith,
       rw (c .before .loop .inv .1) (fill-more k 0 part (omega arith)),
       rw length-set (c .before .loop .inv .2),

@@ -1,5 +1,4 @@
 -- The limit is that of the form which the arm found.
-use native.Mathlib.Omega.{arith}
 use borrow.Author.Needs.{needs}
 use Rattle.image.proofs.write.is_allowed.Statement.{statement}
 use Rattle.image.proofs.write.is_allowed.Tie as tie

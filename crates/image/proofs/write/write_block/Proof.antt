@@ -1,10 +1,9 @@
 -- The check is that of the 510 bytes which the body is.
-use mathlib.Core.Path.{_≡_, _∙_}
+use mathlib.Core.Path.{_∙_}
 use lib.ListN.{length, drop}
 use lib.Seq.{take-at}
 use Rattle.image.specs.Write.{bodyBytes}
 use Rattle.image.proofs.Writes.{length-body}
-use native.Mathlib.Omega.{arith}
 use borrow.Author.Needs.{needs}
 use Rattle.image.proofs.write.write_block.Statement.{statement}
 use Rattle.image.proofs.write.write_block.Tie as tie

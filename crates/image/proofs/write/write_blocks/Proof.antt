@@ -86,8 +86,7 @@ loop-again c =
     let b = c .before .before .before .before .before .before .before .loop .b in
     let inside : b < blocksOf flat = omega arith in
     let block : c .before .before .write-block .last .1 .1 .1 .1 .0 ≡ blockOf form (cut flat) b =
-        c .before .before .write-block .ensures ∙ rw (c .before .before .before .before .before .least .ensures, entry .pre .1 .0) (block-cut form flat b (entry .pre .0) inside) in
-    (
+    c .before .before .write-block .ensures ∙ rw (c .before .before .before .before .before .least .ensures, entry .pre .1 .0) (block-cut form flat b (entry .pre .0) inside) in (
       omega arith,
       rw (block, c .before .before .before .before .before .before .before .loop .inv .1) (blocks-more form flat room b),
       omega arith,

@@ -45,12 +45,12 @@ returns : tie.Need-returns
 returns c =
     let entry = c .before .before .before .before .before .before .before .before .before .before .before .before .before .before in
     body-written (entry .args .form) (entry .args .total) (entry .args .b) (entry .args .records .now) (entry .pre .0)
-    (entry .args .block .now) (entry .pre .1) (c .before .before .before .before .before .before .before .before .before .before .write-header .last .1 .1 .1 .1 .0) (c .before .before .before .before .before .before .copy-bytes .last .1 .0) (c .before .before .fill-zero .last .0)
+    (entry .args .block .now) (c .before .before .before .before .before .before .before .before .before .before .write-header .last .1 .1 .1 .1 .0) (c .before .before .before .before .before .before .copy-bytes .last .1 .0) (c .before .before .fill-zero .last .0)
     (c .before .before .before .before .before .before .before .before .before .before .write-header .ensures)
     (omega arith)
     (c .before .before .before .before .before .before .copy-bytes .ensures)
-    (c .before .before .fill-zero .ensures)
     (omega arith)
+    (c .before .before .fill-zero .ensures)
 
 pub write-body-spec : {M : Type 1} → statement M
 write-body-spec =

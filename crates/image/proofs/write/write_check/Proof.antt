@@ -1,6 +1,5 @@
 -- The two bytes are the low and the high byte of the check, and nothing follows them.
 use Rattle.image.proofs.Writes.{check-written}
-use native.Mathlib.Omega.{arith}
 use borrow.Author.Needs.{needs}
 use Rattle.image.proofs.write.write_check.Statement.{statement}
 use Rattle.image.proofs.write.write_check.Tie as tie

@@ -1,5 +1,4 @@
 -- The letters that are copied are the mark of the form which the arm found.
-use native.Mathlib.Omega.{arith}
 use borrow.Author.Needs.{needs}
 use Rattle.image.proofs.write.write_mark.Statement.{statement}
 use Rattle.image.proofs.write.write_mark.Tie as tie
