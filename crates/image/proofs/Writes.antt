@@ -28,11 +28,11 @@ copied-more s d k inside fits =
     rw more (rw (here, next) at step)
 
 -- values written over a whole list
-pub over-all : (s d : List ℕ) → length s ≡ length d → over s d ≡ s
+over-all : (s d : List ℕ) → length s ≡ length d → over s d ≡ s
 over-all s d e = rw (e, drop-length d, append-nil)
 
 -- a part put behind the values that are written already
-pub put-over : (done new l : List ℕ) (a k : ℕ) → length done ≡ a → length new ≡ k → putMid a k (over done l) new ≡ over (done ++ new) l
+put-over : (done new l : List ℕ) (a k : ℕ) → length done ≡ a → length new ≡ k → putMid a k (over done l) new ≡ over (done ++ new) l
 put-over done new l a k e f =
     rw (
       take-at done (drop (length done) l) a e,
@@ -44,7 +44,7 @@ put-over done new l a k e f =
     )
 
 -- values stored one after another behind the values that are written already
-pub stored-over : (done new l : List ℕ) (a : ℕ) → length done ≡ a → a + length new ≤ length l → sets (over done l) a new ≡ over (done ++ new) l
+stored-over : (done new l : List ℕ) (a : ℕ) → length done ≡ a → a + length new ≤ length l → sets (over done l) a new ≡ over (done ++ new) l
 stored-over done new l a e h =
     let long : length (over done l) ≡ length l = simp (length-append, length-drop) (omega arith) in
     sets-eq new (over done l) a (omega arith)
@@ -124,18 +124,20 @@ check-written block long =
     ∙ rw (drop-of-length-le block {i = 512} (omega arith), append-nil))
 
 -- records that lie one after another are 32 bytes each
-pub cut-sized : (flat : List ℕ) → Records (cut flat)
+cut-sized : (flat : List ℕ) → Records (cut flat)
 cut-sized flat = sized-upTo 32 (λ k. take 32 (drop (32 * k) flat)) (length flat / 32) (λ k l. length-part flat (32 * k) 32 (omega arith))
 
--- the records of block b, joined, are the bytes from its first record to its last
+-- the records of block b, where all records lie one after another
 module _ (flat : List ℕ) (b : ℕ) where
+  -- how many they are
   abbrev size : ℕ
   size = min 15 (length flat / 32 - 15 * b)
 
-  pub count-cut : length (recordsOf (cut flat) b) ≡ size
+  count-cut : length (recordsOf (cut flat) b) ≡ size
   count-cut = length-recordsOf (cut flat) b ∙ rw length-upTo
 
-  pub joined-cut : joined (recordsOf (cut flat) b) ≡ take (32 * size) (drop (480 * b) flat)
+  -- joined, they are the bytes from the first of them to the last
+  joined-cut : joined (recordsOf (cut flat) b) ≡ take (32 * size) (drop (480 * b) flat)
   joined-cut =
       ap joined (part-upTo (λ k. take 32 (drop (32 * k) flat)) 15 (15 * b) (length flat / 32)
       ∙ upTo-ext (λ k. take 32 (drop (32 * (15 * b + k)) flat)) (λ k. take 32 (drop (32 * k) (drop (480 * b) flat))) size
@@ -165,7 +167,7 @@ block-cut form flat b whole inside =
     )
 
 -- the first b blocks are 512 bytes each
-pub length-blocks : (form : Form) (flat : List ℕ) (b : ℕ) → length (joined (upTo (blockOf form (cut flat)) b)) ≡ 512 * b
+length-blocks : (form : Form) (flat : List ℕ) (b : ℕ) → length (joined (upTo (blockOf form (cut flat)) b)) ≡ 512 * b
 length-blocks form flat b =
     length-joined 512 (upTo (blockOf form (cut flat)) b) (sized-upTo 512 (blockOf form (cut flat)) b (λ k l. length-blockOf form (cut flat) (cut-sized flat) k))
     ∙ rw length-upTo

@@ -80,17 +80,13 @@ loop-less c = search needs
 loop-again : tie.Need-loop-again Inv-loop μ-loop
 loop-again c =
     let entry = c .before .before .before .before .before .before .before .before .before .before in
+    let loop = c .before .before .before .before .before .before .before .loop in
+    let written = c .before .before .write-block in
     let form = entry .args .form in
     let flat = entry .args .records .now in
-    let room = entry .args .room .now in
-    let b = c .before .before .before .before .before .before .before .loop .b in
-    let inside : b < blocksOf flat = omega arith in
-    let block : c .before .before .write-block .last .1 .1 .1 .1 .0 ≡ blockOf form (cut flat) b =
-    c .before .before .write-block .ensures ∙ rw (c .before .before .before .before .before .least .ensures, entry .pre .1 .0) (block-cut form flat b (entry .pre .0) inside) in (
-      omega arith,
-      rw (block, c .before .before .before .before .before .before .before .loop .inv .1) (blocks-more form flat room b),
-      omega arith,
-    )
+    let inside : loop .b < blocksOf flat = omega arith in
+    let block : written .last .1 .1 .1 .1 .0 ≡ blockOf form (cut flat) (loop .b) = written .ensures ∙ rw (c .before .before .before .before .before .least .ensures, entry .pre .1 .0) (block-cut form flat (loop .b) (entry .pre .0) inside) in
+    (omega arith, rw (block, loop .inv .1) (blocks-more form flat (entry .args .room .now) (loop .b)), omega arith)
 
 same-length : tie.Need-same-length Inv-loop μ-loop
 same-length c = search needs

@@ -44,13 +44,12 @@ same-length c = search needs
 returns : tie.Need-returns
 returns c =
     let entry = c .before .before .before .before .before .before .before .before .before .before .before .before .before .before in
+    let headed = c .before .before .before .before .before .before .before .before .before .before .write-header in
+    let copied = c .before .before .before .before .before .before .copy-bytes in
+    let filled = c .before .before .fill-zero in
     body-written (entry .args .form) (entry .args .total) (entry .args .b) (entry .args .records .now) (entry .pre .0)
-    (entry .args .block .now) (c .before .before .before .before .before .before .before .before .before .before .write-header .last .1 .1 .1 .1 .0) (c .before .before .before .before .before .before .copy-bytes .last .1 .0) (c .before .before .fill-zero .last .0)
-    (c .before .before .before .before .before .before .before .before .before .before .write-header .ensures)
-    (omega arith)
-    (c .before .before .before .before .before .before .copy-bytes .ensures)
-    (omega arith)
-    (c .before .before .fill-zero .ensures)
+    (entry .args .block .now) (headed .last .1 .1 .1 .1 .0) (copied .last .1 .0) (filled .last .0)
+    (headed .ensures) (omega arith) (copied .ensures) (omega arith) (filled .ensures)
 
 pub write-body-spec : {M : Type 1} → statement M
 write-body-spec =

@@ -32,11 +32,9 @@ same-length c = search needs
 
 returns : tie.Need-returns
 returns c =
-    let form = c .before .before .before .before .before .args .form in
-    let total = c .before .before .before .before .before .args .total in
-    let b = c .before .before .before .before .before .args .b in
-    let count = c .before .before .before .before .before .args .count in
-    rw (c .before .before .write-mark .ensures) (header-stored form total b count (c .before .before .before .before .before .args .block .now) (c .before .before .before .before .before .pre))
+    let entry = c .before .before .before .before .before in
+    rw (c .before .before .write-mark .ensures)
+    (header-stored (entry .args .form) (entry .args .total) (entry .args .b) (entry .args .count) (entry .args .block .now) (entry .pre))
 
 pub write-header-spec : {M : Type 1} → statement M
 write-header-spec =
