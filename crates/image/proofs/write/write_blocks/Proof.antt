@@ -1,5 +1,5 @@
 -- Before each turn the room starts with the first b blocks of the image, and the rest is as it was.
-use Prim.Native.Nat.{ℕ, _*_, _-_, _/_, _≤_, _<_}
+use Prim.Native.Nat.{ℕ, _+_, _*_, _-_, _/_, _≤_, _<_, min}
 use mathlib.Core.List.{List}
 use mathlib.Core.Path.{_≡_, refl, _∙_}
 use lib.ListN.{length, take, drop}
@@ -85,7 +85,8 @@ loop-again c =
     let form = entry .args .form in
     let flat = entry .args .records .now in
     let inside : loop .b < blocksOf flat = omega arith in
-    let block : written .last .1 .1 .1 .1 .0 ≡ blockOf form (cut flat) (loop .b) = written .ensures ∙ rw (c .before .before .before .before .before .least .ensures, entry .pre .1 .0) (block-cut form flat (loop .b) (entry .pre .0) inside) in
+    let last : c .before .before .before .before .before .least .result ≡ min (480 * loop .b + 480) (length flat) = c .before .before .before .before .before .least .ensures in
+    let block : written .last .1 .1 .1 .1 .0 ≡ blockOf form (cut flat) (loop .b) = written .ensures ∙ rw (last, entry .pre .1 .0) (block-cut form flat (loop .b) (entry .pre .0) inside) in
     (omega arith, rw (block, loop .inv .1) (blocks-more form flat (entry .args .room .now) (loop .b)), omega arith)
 
 same-length : tie.Need-same-length Inv-loop μ-loop
