@@ -9,7 +9,7 @@ use lib.Seq.{sets, sets-eq, paste-suc, getD-take, take-at, drop-at, drop-drop, d
 use Rattle.rules.specs.declared.Form.{Form}
 use Rattle.rules.specs.declared.Form.the-variants.{Table, Patch}
 use Rattle.rules.specs.Numbers.{upTo}
-use Rattle.rules.specs.Blocks.{mark, mostBlocks, checkOf, withCheck, joined, blockOf}
+use Rattle.rules.specs.Blocks.{mark, checkOf, withCheck, joined, blockOf}
 use Rattle.rules.specs.Calls.{over}
 use Rattle.rules.proofs.Numbers.{length-upTo, upTo-ext, upTo-step}
 use Rattle.rules.proofs.Image.Parts.{Records, sized-upTo, length-joined, joined-append, joined-parts, part-upTo}
@@ -181,8 +181,3 @@ blocks-more form flat room b =
     let size : 512 * b + 512 - 512 * b ≡ 512 = omega arith in
     put-over (joined (upTo block b)) (block b) room (512 * b) (512 * b + 512 - 512 * b) (length-blocks form flat b) (length-blockOf form (cut flat) (cut-sized flat) b ∙ sym size)
     ∙ rw (upTo-step block b, joined-append (upTo block b) (block b ∷ []), append-nil)
-
--- no form has more than 45 blocks
-pub most-small : (form : Form) → mostBlocks form ≤ 45
-most-small Table = omega arith
-most-small Patch = omega arith

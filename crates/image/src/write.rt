@@ -2,12 +2,12 @@
 ghost use mathlib.Core.Path.{_≡_};
 ghost use Prim.Native.Nat.{_*_, _%_, _/_, _≤_};
 ghost use lib.ListN.{length, take, replicate};
-ghost use lib.Dec.{leb};
-ghost use Rattle.rules.specs.Blocks.{mark, mostBlocks, blocksFor, withCheck, imageOf};
+ghost use Rattle.rules.specs.Blocks.{mark, blocksFor, withCheck, imageOf};
 ghost use Rattle.rules.specs.Calls.{over};
 ghost use Rattle.image.specs.Write.{cut, blocksOf, writtenLength, writtenRoom, headerOf, bodyBytes};
 use crate::block::check_of;
 use crate::bytes::least;
+use crate::frame::most_blocks;
 use rules::Form;
 
 // The bytes of a block's fifteen places.
@@ -122,16 +122,6 @@ fn blocks_of(bytes: usize) -> usize
     if blocks == 0 { 1 } else { blocks }
 }
 
-// Whether an image of the form may have this many blocks.
-fn is_allowed(form: Form, blocks: usize) -> bool
-    ensures { λ r. ⌜ r ≡ leb blocks (mostBlocks form) ⌝ }
-{
-    match form {
-        Form::Table => blocks <= rules::TABLE_BLOCKS,
-        Form::Patch => blocks <= rules::PATCH_BLOCKS,
-    }
-}
-
 // Writes the image of the records that lie one after another, 32 bytes each, over the start of the room, and answers
 // its length in bytes. Answers 0 and writes nothing where the bytes are no whole records, or fill more blocks than the
 // form may have or the room holds.
@@ -142,7 +132,7 @@ pub fn write_image(form: Form, records: &[u8], room: &mut [u8]) -> usize
         return 0;
     }
     let total = blocks_of(records.len());
-    if !is_allowed(form, total) {
+    if most_blocks(form) < total {
         return 0;
     }
     let length = rules::BLOCK_BYTES * total;

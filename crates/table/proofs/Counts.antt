@@ -1,5 +1,5 @@
 -- The tally of one pass holds the counts of each kind and way.
-use Prim.Native.Nat.{ℕ, _+_, _*_, _≤_, _<_}
+use Prim.Native.Nat.{ℕ, _+_, _*_, _≤_}
 use mathlib.Core.List.{List, []}
 use mathlib.Core.Bool.{Bool, true, false, cond, _&&_, _||_}
 use mathlib.Core.Path.{_≡_, sym, ap, _∙_}
@@ -14,7 +14,7 @@ use Rattle.rules.proofs.Blocks.{mostBlocks-most}
 use Rattle.rules.proofs.Image.Frame.{frame-of, records-fit}
 use Rattle.rules.specs.Records.{kindOf, wayOf, countOf, mostOf, tooMany}
 use Rattle.rules.proofs.Numbers.{either, sumTo-ext}
-use Rattle.table.specs.Tally.{slotOf, slotted, Tallied}
+use Rattle.table.specs.Tally.{slotOf, Tallied}
 
 -- a record is counted at k + 4 * w exactly when it is of kind k and way w
 slot-is : (r : List ℕ) (k w : ℕ) → 1 ≤ k → k ≤ 3 → w ≤ 1 → eqb (slotOf r) (k + 4 * w) ≡ (eqb (kindOf r) k && eqb (wayOf r) w)

@@ -1,10 +1,6 @@
 -- Each test that fails makes the bytes not writable; where all hold, the blocks are written.
-use Prim.Native.Nat.{_≤_}
-use mathlib.Core.Path.{sym, _∙_}
-use borrow.Author.Tests.{eq-eqb, ne-eqb, le-leb, lt-leb, leb-true, not-true, not-false}
-use Rattle.rules.specs.Blocks.{mostBlocks}
+use borrow.Author.Tests.{eq-eqb, ne-eqb, le-leb, lt-leb}
 use Rattle.image.specs.Write.{writable}
-use Rattle.image.proofs.Writes.{most-small}
 use native.Mathlib.Omega.{arith}
 use borrow.Author.Needs.{needs}
 use Rattle.image.proofs.write.write_image.Statement.{statement}
@@ -19,16 +15,17 @@ returns c =
 blocks-of-requires : tie.Need-blocks-of-requires
 blocks-of-requires c κs = search needs
 
-is-allowed-requires : tie.Need-is-allowed-requires
-is-allowed-requires c κs = search needs
+most-blocks-requires : tie.Need-most-blocks-requires
+most-blocks-requires c κs = search needs
 
 returns-2 : tie.Need-returns-2
 unfolding writable
 returns-2 c =
     let whole = eq-eqb _ _ (c .before .before .before .if1 .left) in
-    let many = sym (c .before .is-allowed .ensures) ∙ not-true _ (c .if2 .taken) in
+    let many = lt-leb _ _ (c .if2 .taken) in
+    let most = c .before .most-blocks .ensures .0 in
     let total = c .before .before .blocks-of .ensures in
-    (rw (whole, ← total, many), rw (whole, ← total, many))
+    (rw (whole, ← total, ← most, many), rw (whole, ← total, ← most, many))
 
 mul-length : tie.Need-mul-length
 mul-length c = search needs
@@ -37,17 +34,15 @@ returns-3 : tie.Need-returns-3
 unfolding writable
 returns-3 c =
     let whole = eq-eqb _ _ (c .before .before .before .before .if1 .left) in
-    let few = sym (c .before .before .is-allowed .ensures) ∙ not-false _ (c .before .if2 .left) in
+    let few = le-leb _ _ (c .before .if2 .left) in
+    let most = c .before .before .most-blocks .ensures .0 in
     let total = c .before .before .before .blocks-of .ensures in
     let short = lt-leb _ _ (c .if3 .taken) in
-    (rw (whole, ← total, few, short), rw (whole, ← total, few, short))
+    (rw (whole, ← total, ← most, few, short), rw (whole, ← total, ← most, few, short))
 
 write-blocks-requires : tie.Need-write-blocks-requires
 write-blocks-requires c κs =
-    let form = c .before .before .before .before .before .before .before .before .args .form in
-    let total = c .before .before .before .before .blocks-of .result in
-    let few : total ≤ mostBlocks form = leb-true total (mostBlocks form) (sym (c .before .before .before .is-allowed .ensures) ∙ not-false _ (c .before .before .if2 .left)) in
-    (c .before .before .before .before .before .if1 .left, (c .before .before .before .before .blocks-of .ensures, (omega (arith, most-small form), c .before .if3 .left)))
+    (c .before .before .before .before .before .if1 .left, (c .before .before .before .before .blocks-of .ensures, (omega (arith, c .before .before .if2 .left, c .before .before .before .most-blocks .ensures .1), c .before .if3 .left)))
 
 same-length : tie.Need-same-length
 same-length c = search needs
@@ -56,10 +51,11 @@ returns-4 : tie.Need-returns-4
 unfolding writable
 returns-4 c =
     let whole = eq-eqb _ _ (c .before .before .before .before .before .before .before .before .if1 .left) in
-    let few = sym (c .before .before .before .before .before .before .is-allowed .ensures) ∙ not-false _ (c .before .before .before .before .before .if2 .left) in
+    let few = le-leb _ _ (c .before .before .before .before .before .if2 .left) in
+    let most = c .before .before .before .before .before .before .most-blocks .ensures .0 in
     let total = c .before .before .before .before .before .before .before .blocks-of .ensures in
     let fits = le-leb _ _ (c .before .before .before .before .if3 .left) in
-    (rw (whole, ← total, few, fits), rw (whole, ← total, few, fits) (c .before .before .write-blocks .ensures))
+    (rw (whole, ← total, ← most, few, fits), rw (whole, ← total, ← most, few, fits) (c .before .before .write-blocks .ensures))
 
 pub write-image-spec : {M : Type 1} → statement M
 write-image-spec =
@@ -67,7 +63,7 @@ write-image-spec =
     (tie.spec
     returns
     blocks-of-requires
-    is-allowed-requires
+    most-blocks-requires
     returns-2
     mul-length
     returns-3

@@ -1,14 +1,12 @@
-use Prim.Native.Nat.{ℕ, _+_, _*_, _-_, _/_, _≤_, _<_}
-use mathlib.Core.Path.{_≡_, refl, sym, ap, _∙_}
-use mathlib.Core.List.{List, []}
-use lib.ListN.{length, getD}
+-- The loop keeps that all below `low` are less and that `high` is not; the middle halves what is between.
+use Prim.Native.Nat.{ℕ, _+_, _-_, _/_, _≤_, _<_}
+use mathlib.Core.Path.{_≡_}
+use lib.ListN.{getD}
 use borrow.Author.Count.{below-more}
 use native.Mathlib.Omega.{arith}
 use borrow.Author.Needs.{needs}
 use Rattle.table.proofs.place.lower_place.Statement.{statement}
 use Rattle.table.proofs.place.lower_place.Tie as tie
-use Rattle.table.proofs.place.lower_place.Reads as reads
-use Rattle.table.proofs.place.lower_place.Lts as lts
 
 abbrev Inv-loop : tie.InvT-loop
 Inv-loop numbers count number low₀ high₀ low high = (low ≤ high) × (high ≤ count) × ((k : ℕ) → k < low → getD numbers k 0 < number) × (high < count → number ≤ getD numbers high 0)

@@ -1,7 +1,7 @@
+-- The loop keeps that the numbers stored are those of the records passed.
 use Rattle.rules.proofs.Numbers.{set-next}
-use Prim.Native.Nat.{ℕ, _+_, _*_, _-_, _/_, _≤_, _<_}
-use mathlib.Core.Path.{_≡_, refl, sym, ap, _∙_}
-use mathlib.Core.List.{List, []}
+use Prim.Native.Nat.{ℕ, _+_, _-_, _≤_, _<_}
+use mathlib.Core.Path.{_≡_, refl, ap, _∙_}
 use lib.ListN.{length, getD, length-set}
 use Rattle.rules.specs.Blocks.{recordAt}
 use Rattle.rules.specs.Records.{numberOf}
@@ -9,10 +9,6 @@ use native.Mathlib.Omega.{arith}
 use borrow.Author.Needs.{needs}
 use Rattle.table.proofs.place.numbers_from.Statement.{statement}
 use Rattle.table.proofs.place.numbers_from.Tie as tie
-use Rattle.table.proofs.place.numbers_from.Reads as reads
-use Rattle.table.proofs.place.numbers_from.Lts as lts
-use Rattle.image.proofs.bytes.two_bytes.Reads as two-bytes-reads
-use Rattle.image.proofs.records.record_at.Reads as record-at-reads
 
 abbrev Inv-loop : tie.InvT-loop
 Inv-loop image first count numbers₀ k₀ numbers k = (k ≤ count) × (length numbers ≡ 64) × ((i : ℕ) → i < k → getD numbers i 0 ≡ numberOf (recordAt image (first + i)))

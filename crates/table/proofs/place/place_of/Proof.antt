@@ -1,12 +1,10 @@
+-- What stands at the lower place is the number, or rising numbers pass over it.
 use mathlib.Core.Path.{sym}
 use Rattle.table.proofs.Places.{place-found, place-none}
 use native.Mathlib.Omega.{arith}
 use borrow.Author.Needs.{needs}
 use Rattle.table.proofs.place.place_of.Statement.{statement}
 use Rattle.table.proofs.place.place_of.Tie as tie
-use Rattle.table.proofs.place.place_of.Reads as reads
-use Rattle.table.proofs.place.place_of.Lts as lts
-use Rattle.table.proofs.place.lower_place.Reads as lower-place-reads
 
 lower-place-requires : tie.Need-lower-place-requires
 lower-place-requires c κs = search needs

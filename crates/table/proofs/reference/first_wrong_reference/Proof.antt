@@ -1,8 +1,9 @@
-use Prim.Native.Nat.{ℕ, _+_, _*_, _-_, _≤_, _<_}
-use mathlib.Core.Path.{_≡_, refl, sym, ap, _∙_}
+-- The loop keeps that no record passed refers to something not listed; the two arrays list the transactions and the tasks.
+use Prim.Native.Nat.{ℕ, _-_, _≤_, _<_}
+use mathlib.Core.Path.{_≡_, sym, ap, _∙_}
 use mathlib.Core.List.{List, []}
 use mathlib.Core.Bool.{Bool}
-use lib.ListN.{length, getD}
+use lib.ListN.{getD}
 use Rattle.rules.specs.Numbers.{lowest}
 use Rattle.rules.specs.Blocks.{records, recordAt, recordCount}
 use Rattle.rules.specs.Records.{referenceWrong}
@@ -12,13 +13,6 @@ use native.Mathlib.Omega.{arith}
 use borrow.Author.Needs.{needs}
 use Rattle.table.proofs.reference.first_wrong_reference.Statement.{statement}
 use Rattle.table.proofs.reference.first_wrong_reference.Tie as tie
-use Rattle.table.proofs.reference.first_wrong_reference.Reads as reads
-use Rattle.table.proofs.reference.first_wrong_reference.Lts as lts
-use Rattle.image.proofs.records.record_at.Reads as record-at-reads
-use Rattle.image.proofs.records.record_count.Reads as record-count-reads
-use Rattle.table.proofs.count.count_kind.Reads as count-kind-reads
-use Rattle.table.proofs.place.numbers_from.Reads as numbers-from-reads
-use Rattle.table.proofs.reference.is_reference_wrong.Reads as is-reference-wrong-reads
 
 -- record k of the image refers to something not listed
 abbrev fault : List ℕ → ℕ → Bool

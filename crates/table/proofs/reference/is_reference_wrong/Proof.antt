@@ -1,14 +1,9 @@
+-- The test is that of the kind at hand.
 use borrow.Author.Tests.{eq-eqb, ne-eqb}
 use Rattle.rules.specs.Records.{referenceWrong}
-use native.Mathlib.Omega.{arith}
 use borrow.Author.Needs.{needs}
 use Rattle.table.proofs.reference.is_reference_wrong.Statement.{statement}
 use Rattle.table.proofs.reference.is_reference_wrong.Tie as tie
-use Rattle.table.proofs.reference.is_reference_wrong.Reads as reads
-use Rattle.table.proofs.reference.is_reference_wrong.Lts as lts
-use Rattle.image.proofs.bytes.byte_at.Reads as byte-at-reads
-use Rattle.table.proofs.reference.is_task_missing.Reads as is-task-missing-reads
-use Rattle.table.proofs.reference.is_transaction_missing.Reads as is-transaction-missing-reads
 
 byte-at-requires : tie.Need-byte-at-requires
 byte-at-requires c κs = search needs

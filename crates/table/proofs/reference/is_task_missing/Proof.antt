@@ -1,20 +1,15 @@
-use Prim.Native.Nat.{ℕ, _<_}
-use mathlib.Core.Path.{_≡_, sym, ap, _∙_}
+-- A place at the count says that the task is not listed.
+use mathlib.Core.Path.{_≡_, ap, _∙_}
 use mathlib.Core.Bool.{not}
 use lib.Dec.{eqb}
 use borrow.Author.Tests.{eq-eqb, ne-eqb}
-use Rattle.rules.specs.Blocks.{records, recordAt}
+use Rattle.rules.specs.Blocks.{records}
 use Rattle.rules.specs.Records.{numberOf, secondOf, tasks, listed}
 use Rattle.table.specs.Numbers.{placeAmong}
 use Rattle.table.proofs.Places.{listed-is}
-use native.Mathlib.Omega.{arith}
 use borrow.Author.Needs.{needs}
 use Rattle.table.proofs.reference.is_task_missing.Statement.{statement}
 use Rattle.table.proofs.reference.is_task_missing.Tie as tie
-use Rattle.table.proofs.reference.is_task_missing.Reads as reads
-use Rattle.table.proofs.reference.is_task_missing.Lts as lts
-use Rattle.image.proofs.bytes.two_bytes.Reads as two-bytes-reads
-use Rattle.table.proofs.place.place_of.Reads as place-of-reads
 
 two-bytes-requires : tie.Need-two-bytes-requires
 two-bytes-requires c κs = search needs

@@ -1,9 +1,10 @@
+-- A place at the count says that the transaction is not listed; the record at a lower place has its period.
 use Prim.Native.Nat.{ℕ, _<_}
-use mathlib.Core.Path.{_≡_, sym, ap, _∙_}
+use mathlib.Core.Path.{_≡_, ap, _∙_}
 use mathlib.Core.Bool.{not}
 use lib.Dec.{eqb}
 use borrow.Author.Tests.{eq-eqb, ne-eqb}
-use Rattle.rules.specs.Blocks.{records, recordAt}
+use Rattle.rules.specs.Blocks.{records}
 use mathlib.Core.List.{[]}
 use lib.ListN.{length, getD}
 use Rattle.rules.specs.Records.{numberOf, secondOf, periodOf, periodIn, transactions, listed, placeOf}
@@ -14,12 +15,6 @@ use native.Mathlib.Omega.{arith}
 use borrow.Author.Needs.{needs}
 use Rattle.table.proofs.reference.is_transaction_missing.Statement.{statement}
 use Rattle.table.proofs.reference.is_transaction_missing.Tie as tie
-use Rattle.table.proofs.reference.is_transaction_missing.Reads as reads
-use Rattle.table.proofs.reference.is_transaction_missing.Lts as lts
-use Rattle.image.proofs.bytes.four_bytes.Reads as four-bytes-reads
-use Rattle.image.proofs.bytes.two_bytes.Reads as two-bytes-reads
-use Rattle.image.proofs.records.record_at.Reads as record-at-reads
-use Rattle.table.proofs.place.place_of.Reads as place-of-reads
 
 two-bytes-requires : tie.Need-two-bytes-requires
 two-bytes-requires c κs = search needs

@@ -1,3 +1,4 @@
+-- The tally holds the count of each kind and way, so each test is that of the definition.
 use mathlib.Core.Path.{_≡_, sym, _∙_}
 use Rattle.rules.specs.Blocks.{records}
 use Rattle.rules.specs.Records.{tooMany}
@@ -8,11 +9,6 @@ use native.Mathlib.Omega.{arith}
 use borrow.Author.Needs.{needs}
 use Rattle.table.proofs.verdict.count_verdict.Statement.{statement}
 use Rattle.table.proofs.verdict.count_verdict.Tie as tie
-use Rattle.table.proofs.verdict.count_verdict.Reads as reads
-use Rattle.table.proofs.verdict.count_verdict.Lts as lts
-use Rattle.image.proofs.frame.refusal.Reads as refusal-reads
-use Rattle.table.proofs.count.tally.Reads as tally-reads
-use Rattle.table.proofs.verdict.has_too_many.Reads as has-too-many-reads
 
 tally-requires : tie.Need-tally-requires
 tally-requires c κs = search needs

@@ -1,10 +1,8 @@
-use borrow.Author.Tests.{lt-ltb, le-ltb, eq-eqb, ne-eqb}
-use native.Mathlib.Omega.{arith}
+-- Each test in turn is that of the definition.
+use borrow.Author.Tests.{lt-ltb, le-ltb}
 use borrow.Author.Needs.{needs}
 use Rattle.table.proofs.verdict.has_too_many.Statement.{statement}
 use Rattle.table.proofs.verdict.has_too_many.Tie as tie
-use Rattle.table.proofs.verdict.has_too_many.Reads as reads
-use Rattle.table.proofs.verdict.has_too_many.Lts as lts
 
 mul-if1 : tie.Need-mul-if1
 mul-if1 c = search needs

@@ -1,5 +1,6 @@
-use Prim.Native.Nat.{ℕ, _<_}
-use mathlib.Core.Path.{_≡_, sym}
+-- Each check that finds a fault answers its refusal, and one that finds none leaves the answer to the next.
+use Prim.Native.Nat.{_<_}
+use mathlib.Core.Path.{sym}
 use mathlib.Core.List.{[]}
 use lib.ListN.{getD}
 use Rattle.rules.specs.Blocks.{records, recordAt, recordCount}
@@ -11,14 +12,6 @@ use native.Mathlib.Omega.{arith}
 use borrow.Author.Needs.{needs}
 use Rattle.table.proofs.verdict.records_verdict.Statement.{statement}
 use Rattle.table.proofs.verdict.records_verdict.Tie as tie
-use Rattle.table.proofs.verdict.records_verdict.Reads as reads
-use Rattle.table.proofs.verdict.records_verdict.Lts as lts
-use Rattle.image.proofs.frame.refusal.Reads as refusal-reads
-use Rattle.image.proofs.records.record_count.Reads as record-count-reads
-use Rattle.table.proofs.form.first_wrong_form.Reads as first-wrong-form-reads
-use Rattle.table.proofs.order.first_wrong_order.Reads as first-wrong-order-reads
-use Rattle.table.proofs.range.first_wrong_range.Reads as first-wrong-range-reads
-use Rattle.table.proofs.verdict.count_verdict.Reads as count-verdict-reads
 
 record-count-requires : tie.Need-record-count-requires
 record-count-requires c κs = search needs

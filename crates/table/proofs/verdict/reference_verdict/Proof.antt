@@ -1,5 +1,6 @@
-use Prim.Native.Nat.{ℕ, _<_}
-use mathlib.Core.Path.{_≡_, sym}
+-- The lowest record at fault is the place, and a count without one is fine.
+use Prim.Native.Nat.{_<_}
+use mathlib.Core.Path.{sym}
 use mathlib.Core.List.{[]}
 use lib.ListN.{getD}
 use Rattle.rules.specs.Blocks.{records, recordAt, recordCount}
@@ -10,11 +11,6 @@ use native.Mathlib.Omega.{arith}
 use borrow.Author.Needs.{needs}
 use Rattle.table.proofs.verdict.reference_verdict.Statement.{statement}
 use Rattle.table.proofs.verdict.reference_verdict.Tie as tie
-use Rattle.table.proofs.verdict.reference_verdict.Reads as reads
-use Rattle.table.proofs.verdict.reference_verdict.Lts as lts
-use Rattle.image.proofs.frame.refusal.Reads as refusal-reads
-use Rattle.image.proofs.records.record_count.Reads as record-count-reads
-use Rattle.table.proofs.reference.first_wrong_reference.Reads as first-wrong-reference-reads
 
 first-wrong-reference-requires : tie.Need-first-wrong-reference-requires
 first-wrong-reference-requires c κs = search needs

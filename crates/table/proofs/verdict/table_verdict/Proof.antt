@@ -1,16 +1,11 @@
+-- A refused frame or record list hides what comes after it.
 use borrow.Author.Tests.{eq-eqb, ne-eqb}
 use Rattle.rules.specs.declared.Form.the-variants.{Table}
 use Rattle.rules.specs.Refusals.{tableVerdict}
 use Rattle.table.proofs.Counts.{records-few}
-use native.Mathlib.Omega.{arith}
 use borrow.Author.Needs.{needs}
 use Rattle.table.proofs.verdict.table_verdict.Statement.{statement}
 use Rattle.table.proofs.verdict.table_verdict.Tie as tie
-use Rattle.table.proofs.verdict.table_verdict.Reads as reads
-use Rattle.table.proofs.verdict.table_verdict.Lts as lts
-use Rattle.image.proofs.frame.frame_verdict.Reads as frame-verdict-reads
-use Rattle.table.proofs.verdict.records_verdict.Reads as records-verdict-reads
-use Rattle.table.proofs.verdict.reference_verdict.Reads as reference-verdict-reads
 
 frame-verdict-requires : tie.Need-frame-verdict-requires
 frame-verdict-requires c κs = search needs
