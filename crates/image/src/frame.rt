@@ -27,7 +27,7 @@ pub fn refusal(form: Form, number: u8, place: u32) -> Verdict
 }
 
 // The most blocks that an image of the form may have.
-fn most_blocks(form: Form) -> usize
+pub fn most_blocks(form: Form) -> usize
     ensures { λ r. ⌜ (r ≡ mostBlocks form) × (r ≤ 45) ⌝ }
 {
     match form {

@@ -3,3 +3,4 @@ mod block;
 pub mod bytes;
 pub mod frame;
 pub mod records;
+pub mod write;

@@ -1,15 +1,15 @@
 -- Laws of numbers read from bytes and of zero fill.
-use Prim.Native.Nat.{ℕ, zero, suc, _+_, _*_, _-_, _≤_, _<_}
-use mathlib.Core.List.{List, [], _∷_, _++_}
+use Prim.Native.Nat.{ℕ, _+_, _≤_, _<_}
+use mathlib.Core.List.{List}
 use mathlib.Core.Bool.{Bool, true, false, not}
-use mathlib.Core.Path.{_≡_, refl, ap, sym, _∙_}
+use mathlib.Core.Path.{_≡_, ap}
 use native.Mathlib.Omega.{arith}
-use borrow.Author.Tests.{eq-eqb, ne-eqb, ltb-true, ltb-false, eqb-true, eqb-false, not-true, not-false}
+use borrow.Author.Tests.{eq-eqb, ne-eqb, ltb-false, eqb-true, not-true, not-false}
 use lib.ListN.{length, getD, take, drop, List·getD-eq-default}
 use lib.Seq.{getD-take, getD-drop}
-use lib.Dec.{ltb, eqb}
+use lib.Dec.{eqb}
 use Rattle.rules.specs.Numbers.{le2, le4, some, lowest, blank}
-use Rattle.rules.proofs.Numbers.{lowest-none, some-true, some-false, lowest-below, either}
+use Rattle.rules.proofs.Numbers.{lowest-none, some-true, some-false, lowest-below}
 
 -- past the end everything reads as 0
 pub le2-past : (s : List ℕ) (k : ℕ) → length s ≤ k → le2 s k ≡ 0

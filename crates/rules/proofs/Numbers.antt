@@ -1,14 +1,14 @@
 -- Laws of what is asked of the numbers from 0 up to n.
-use Prim.Native.Nat.{ℕ, zero, suc, _+_, _*_, _-_, _≤_, _<_, max}
+use Prim.Native.Nat.{ℕ, zero, suc, _+_, _≤_, _<_, max}
 use mathlib.Core.List.{List, [], _∷_, _++_}
-use mathlib.Core.Bool.{Bool, true, false, cond, _&&_, _||_, not}
-use mathlib.Core.Path.{_≡_, refl, ap, sym, _∙_}
+use mathlib.Core.Bool.{Bool, true, false, cond}
+use mathlib.Core.Path.{_≡_, refl, _∙_}
 use native.Mathlib.Numerals.{add-one}
 use native.Mathlib.Omega.{arith}
-use borrow.Author.Tests.{ltb-true, ltb-false, lt-ltb, le-ltb, eqb-true, eqb-false, eq-eqb, ne-eqb}
-use lib.ListN.{length, getD, length-append, List·getD-append}
-use lib.Seq.{getD-at}
-use lib.Dec.{ltb, leb, eqb}
+use borrow.Author.Tests.{ltb-true, ltb-false, le-ltb}
+use lib.ListN.{length, getD, set, length-append, List·getD-append}
+use lib.Seq.{getD-at, getD-set-same, getD-set-other}
+use lib.Dec.{ltb}
 use Rattle.rules.specs.Numbers.{upTo, sumTo, largestTo, countTo, lowest, some}
 
 -- either way of a test
@@ -168,3 +168,21 @@ countTo-le test (suc n) =
     either (test n)
     (λ t. rw t (omega (arith, countTo-le test n)))
     (λ t. rw t (omega (arith, countTo-le test n)))
+
+-- tests that agree below n have the same lowest
+pub lowest-ext : (test other : ℕ → Bool) (n : ℕ) → ((k : ℕ) → k < n → test k ≡ other k) → lowest test n ≡ lowest other n
+unfolding lowest
+lowest-ext test other zero h = refl
+lowest-ext test other (suc n) h = rw (lowest-ext test other n (λ k l. h k (omega arith)), h n (omega arith))
+
+-- one more value stored at the end of what is known
+pub set-next : (f : ℕ → ℕ) (l : List ℕ) (k v : ℕ) → k < length l → ((i : ℕ) → i < k → getD l i 0 ≡ f i) → v ≡ f k
+    → (i : ℕ) → i < k + 1 → getD (set l k v) i 0 ≡ f i
+set-next f l k v inside known here i h =
+    either (ltb i k)
+    (λ t.
+    let below = ltb-true i k t in
+    getD-set-other l k i v 0 (λ e. omega arith) ∙ known i below)
+    (λ t.
+    let e : i ≡ k = omega (arith, ltb-false i k t) in
+    rw e (getD-set-same l k v 0 inside ∙ here))

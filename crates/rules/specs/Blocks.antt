@@ -1,12 +1,12 @@
 -- Blocks: an image is a row of blocks of 512 bytes.
-use Prim.Native.Nat.{ℕ, zero, suc, _+_, _*_, _-_, _/_, _%_, max}
+use Prim.Native.Nat.{ℕ, _+_, _*_, _-_, _/_, _%_, max}
 use mathlib.Core.List.{List, [], _∷_, _++_}
-use mathlib.Core.Bool.{Bool, true, false, cond, _&&_, _||_, not}
+use mathlib.Core.Bool.{Bool, cond, _&&_, _||_, not}
 use lib.ListN.{length, getD, take, drop, replicate}
 use lib.Dec.{leb, ltb, eqb}
 use Rattle.rules.specs.declared.Form.{Form}
 use Rattle.rules.specs.declared.Form.the-variants.{Table, Patch}
-use Rattle.rules.specs.Numbers.{le2, between, upTo, sumTo, blank}
+use Rattle.rules.specs.Numbers.{le2, upTo, sumTo, blank}
 
 -- `TB` in a table, `PA` in a patch
 abbrev pub mark : Form → List ℕ

@@ -1,12 +1,11 @@
 -- What each call returns, and what each lent buffer holds afterwards, for every input.
-use Prim.Native.Nat.{ℕ, zero, suc, _+_, _*_}
-use mathlib.Core.List.{List, [], _∷_, _++_}
-use mathlib.Core.Bool.{Bool, true, false, cond, _&&_, _||_, not}
+use Prim.Native.Nat.{ℕ, _*_}
+use mathlib.Core.List.{List, [], _++_}
+use mathlib.Core.Bool.{Bool, true, false, cond, _||_}
 use mathlib.Core.Path.{_≡_}
-use lib.ListN.{length, getD, take, drop}
-use lib.Dec.{leb, ltb, eqb}
-use Rattle.rules.specs.declared.Form.{Form}
-use Rattle.rules.specs.declared.Form.the-variants.{Table, Patch}
+use lib.ListN.{length, drop}
+use lib.Dec.{ltb, eqb}
+use Rattle.rules.specs.declared.Form.the-variants.{Table}
 use Rattle.rules.specs.declared.Verdict.{Verdict}
 use Rattle.rules.specs.declared.Bounds.{Bounds}
 use Rattle.rules.specs.declared.Patched.{Patched}
@@ -15,7 +14,7 @@ use Rattle.rules.specs.Records.{taskCount}
 use Rattle.rules.specs.Preempt.{mapOf}
 use Rattle.rules.specs.Chains.{Figures, FiguresOf, chainBound, chainIds}
 use Rattle.rules.specs.Patches.{outcome, touchedCount, patchedMap}
-use Rattle.rules.specs.Refusals.{accepted, orElse, refuseIf, tableVerdict, patchVerdict, absentRefusal, outcomeRefusal, shortRefusal, passes}
+use Rattle.rules.specs.Refusals.{accepted, orElse, tableVerdict, patchVerdict, absentRefusal, outcomeRefusal, shortRefusal, passes}
 
 -- a buffer with these values written over its start; what lies beyond them keeps its values
 abbrev pub over : List ℕ → List ℕ → List ℕ

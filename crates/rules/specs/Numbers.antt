@@ -1,7 +1,7 @@
 -- Numbers read from bytes, and what is asked of the numbers from 0 up to n.
 use Prim.Native.Nat.{ℕ, zero, suc, _+_, _*_, _<_, max}
 use mathlib.Core.List.{List, [], _∷_, _++_}
-use mathlib.Core.Bool.{Bool, true, false, cond, _&&_, not}
+use mathlib.Core.Bool.{Bool, cond, _&&_, not}
 use lib.ListN.{getD}
 use lib.Dec.{leb, ltb, eqb}
 

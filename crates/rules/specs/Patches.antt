@@ -1,9 +1,9 @@
 -- Patches: the outcome of a patch, touched tasks and the carried map, on records.
-use Prim.Native.Nat.{ℕ, zero, suc, _+_}
-use mathlib.Core.List.{List, [], _∷_, _++_, foldr}
-use mathlib.Core.Bool.{Bool, true, false, cond, _&&_, _||_, not}
+use Prim.Native.Nat.{ℕ}
+use mathlib.Core.List.{List, [], _∷_, foldr}
+use mathlib.Core.Bool.{Bool, true, false, cond, _&&_, _||_}
 use lib.ListN.{length, getD, set}
-use lib.Dec.{leb, ltb, eqb}
+use lib.Dec.{leb, eqb}
 use Rattle.rules.specs.Numbers.{countTo, some}
 use Rattle.rules.specs.Records.{kindOf, numberOf, secondOf, wayOf, key, tasks, taskCount, taskAt, placeOf}
 use Rattle.rules.specs.Preempt.{cell, decided, mapFrom}

@@ -1,7 +1,7 @@
 -- Records, as lists of 32 bytes: kinds, fields, ranges, order.
-use Prim.Native.Nat.{ℕ, zero, suc, _+_, _*_, _-_}
+use Prim.Native.Nat.{ℕ, _+_, _*_}
 use mathlib.Core.List.{List, [], _∷_}
-use mathlib.Core.Bool.{Bool, true, false, cond, _&&_, _||_, not}
+use mathlib.Core.Bool.{Bool, false, cond, _&&_, _||_, not}
 use lib.ListN.{length, getD}
 use lib.Dec.{leb, ltb, eqb}
 use Rattle.rules.specs.declared.Form.{Form}
@@ -145,9 +145,16 @@ countOf k way rs =
 unfoldable pub tooMany : List (List ℕ) → ℕ → Bool
 tooMany rs k = ltb (mostOf k) (countOf k 0 rs) || ltb (mostOf k) (countOf k 1 rs)
 
+-- of a task: its transaction is not listed, or O is not below T
+abbrev pub transactionMissing : List (List ℕ) → List ℕ → Bool
+transactionMissing rs r =
+    not (listed (transactions rs) (secondOf r)) || not (ltb (le4 r 8) (periodIn rs (secondOf r)))
+
+-- of a pair: a task is not listed
+abbrev pub taskMissing : List (List ℕ) → List ℕ → Bool
+taskMissing rs r = not (listed (tasks rs) (numberOf r)) || not (listed (tasks rs) (secondOf r))
+
 -- transaction or task not listed, or O not below T
 unfoldable pub referenceWrong : List (List ℕ) → List ℕ → Bool
 referenceWrong rs r =
-    cond (eqb (kindOf r) 2)
-    (not (listed (transactions rs) (secondOf r)) || not (ltb (le4 r 8) (periodIn rs (secondOf r))))
-    (cond (eqb (kindOf r) 3) (not (listed (tasks rs) (numberOf r)) || not (listed (tasks rs) (secondOf r))) false)
+    cond (eqb (kindOf r) 2) (transactionMissing rs r) (cond (eqb (kindOf r) 3) (taskMissing rs r) false)

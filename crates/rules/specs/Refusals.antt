@@ -1,14 +1,14 @@
 -- Refusal numbers: checks run in order, each over the whole image before the next, and the lowest place wins.
-use Prim.Native.Nat.{ℕ, zero, suc, _+_, _*_, _-_}
-use mathlib.Core.List.{List, [], _∷_}
-use mathlib.Core.Bool.{Bool, true, false, cond, _&&_, _||_, not}
+use Prim.Native.Nat.{ℕ, _+_, _-_}
+use mathlib.Core.List.{List, []}
+use mathlib.Core.Bool.{Bool, cond, _&&_, not}
 use lib.ListN.{length, getD}
 use lib.Dec.{leb, ltb, eqb}
 use Rattle.rules.specs.declared.Form.{Form}
 use Rattle.rules.specs.declared.Form.the-variants.{Table, Patch}
 use Rattle.rules.specs.declared.Verdict.{Verdict}
 use Rattle.rules.specs.Numbers.{lowest, some}
-use Rattle.rules.specs.Blocks.{blockCount, blockAt, lengthWrong, checkWrong, headerWrong, records, blocksFor}
+use Rattle.rules.specs.Blocks.{blockCount, blockAt, lengthWrong, checkWrong, headerWrong, records}
 use Rattle.rules.specs.Records.{formWrong, imageKey, rangeWrong, tooMany, referenceWrong, wayOf}
 use Rattle.rules.specs.Patches.{has, outcome}
 

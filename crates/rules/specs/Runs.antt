@@ -1,10 +1,10 @@
 -- Demand 3: a run of patches, each applied to what the last accepted one left, and the same worked out afresh from records.
-use Prim.Native.Nat.{ℕ, zero, suc}
+use Prim.Native.Nat.{ℕ}
 use mathlib.Core.List.{List, [], _∷_}
-use mathlib.Core.Bool.{Bool, true, false, cond, _&&_}
+use mathlib.Core.Bool.{Bool, true, cond, _&&_}
 use mathlib.Core.Path.{_≡_}
 use lib.ListN.{length, take}
-use lib.Dec.{leb, ltb, eqb}
+use lib.Dec.{leb}
 use Rattle.rules.specs.declared.Form.the-variants.{Table}
 use Rattle.rules.specs.Numbers.{Bytes}
 use Rattle.rules.specs.Blocks.{records, imageOf}

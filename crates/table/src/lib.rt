@@ -2,4 +2,10 @@
 pub mod count;
 mod form;
 mod order;
+pub mod place;
 mod range;
+mod reference;
+mod verdict;
+
+pub use verdict::patch_verdict;
+pub use verdict::table_verdict;

@@ -1,19 +1,19 @@
 -- What an accepted frame says of an image: its length, the check, header, count and zero fill of each block, and where its records are.
 use Prim.Native.Nat.{ℕ, _+_, _*_, _-_, _/_, _%_, _≤_, _<_, min}
 use mathlib.Core.List.{List}
-use mathlib.Core.Bool.{Bool, true, false, _||_, not}
+use mathlib.Core.Bool.{true, false, _||_, not}
 use mathlib.Core.Path.{_≡_}
 use native.Mathlib.Nat.{add-assoc}
 use native.Mathlib.Omega.{arith}
-use borrow.Author.Tests.{eqb-true, eqb-false, ne-eqb, ltb-true, ltb-false, le-ltb, leb-true, not-false, not-true}
+use borrow.Author.Tests.{eqb-true, eqb-false, ne-eqb, ltb-true, ltb-false, le-ltb, leb-true, not-false}
 use lib.ListN.{length, getD, take, drop, length-take, length-drop}
 use lib.Seq.{getD-take, getD-drop, drop-drop}
 use lib.Dec.{eqb, ltb, leb}
 use Rattle.rules.specs.declared.Form.{Form}
-use Rattle.rules.specs.Numbers.{some, blank}
+use Rattle.rules.specs.Numbers.{blank}
 use Rattle.rules.specs.Blocks.{mark, mostBlocks, blockCount, blockAt, lengthWrong, checkWrong, countRight, markWrong, headerWrong, recordStart, recordAt, recordCount, records, blocksFor}
 use Rattle.rules.specs.Refusals.{accepted, fine, frameVerdict, lengthRefusal, checkRefusal, headerRefusal, orElse, numbered}
-use Rattle.rules.proofs.Numbers.{either, never, lowest-none, some-true, some-false}
+use Rattle.rules.proofs.Numbers.{either}
 use Rattle.rules.proofs.Image.Parts.{Records, sized-upTo, part-front}
 use Rattle.rules.proofs.Bytes.{blank-zero, blank-true}
 use Rattle.rules.proofs.Tests.{neither-first, neither-second, neither, both-first, both-second, not-fails, same-numbers, not-different}

@@ -1,3 +1,4 @@
+-- The loop keeps that the sum is that of the bytes passed, at most 130,050 for each.
 use Prim.Native.Nat.{ℕ, _+_, _*_, _-_, _%_, _≤_, _<_}
 use mathlib.Core.Path.{_≡_, refl, ap, _∙_}
 use mathlib.Core.List.{List}
@@ -10,9 +11,6 @@ use native.Mathlib.Omega.{arith}
 use borrow.Author.Needs.{needs}
 use Rattle.image.proofs.block.check_of.Statement.{statement}
 use Rattle.image.proofs.block.check_of.Tie as tie
-use Rattle.image.proofs.block.check_of.Reads as reads
-use Rattle.image.proofs.block.check_of.Lts as lts
-use Rattle.image.proofs.bytes.wide.Reads as wide-reads
 
 abbrev term : List ℕ → ℕ → ℕ
 term block i = (i + 1) * getD block i 0

@@ -1,12 +1,8 @@
+-- Each letter is compared as the definition does, in its order.
 use borrow.Author.Tests.{eq-eqb, ne-eqb}
-use native.Mathlib.Omega.{arith}
 use borrow.Author.Needs.{needs}
 use Rattle.image.proofs.block.differs.Statement.{statement}
 use Rattle.image.proofs.block.differs.Tie as tie
-use Rattle.image.proofs.block.differs.Reads as reads
-use Rattle.image.proofs.block.differs.Lts as lts
-use Rattle.image.proofs.bytes.byte_at.Reads as byte-at-reads
-use Rattle.image.proofs.bytes.wide.Reads as wide-reads
 
 byte-at-requires : tie.Need-byte-at-requires
 byte-at-requires c κs = search needs

@@ -1,11 +1,7 @@
-use native.Mathlib.Omega.{arith}
+-- The stored number and the worked-out one are compared as the definition does.
 use borrow.Author.Needs.{needs}
 use Rattle.image.proofs.block.is_check_wrong.Statement.{statement}
 use Rattle.image.proofs.block.is_check_wrong.Tie as tie
-use Rattle.image.proofs.block.is_check_wrong.Reads as reads
-use Rattle.image.proofs.block.is_check_wrong.Lts as lts
-use Rattle.image.proofs.block.check_of.Reads as check-of-reads
-use Rattle.image.proofs.bytes.two_bytes.Reads as two-bytes-reads
 
 two-bytes-requires : tie.Need-two-bytes-requires
 two-bytes-requires c κs = search needs

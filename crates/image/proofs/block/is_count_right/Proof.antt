@@ -1,10 +1,9 @@
+-- Each return follows the tests on the way.
 use borrow.Author.Tests.{eq-eqb, ne-eqb, le-leb, lt-leb}
 use native.Mathlib.Omega.{arith}
 use borrow.Author.Needs.{needs}
 use Rattle.image.proofs.block.is_count_right.Statement.{statement}
 use Rattle.image.proofs.block.is_count_right.Tie as tie
-use Rattle.image.proofs.block.is_count_right.Reads as reads
-use Rattle.image.proofs.block.is_count_right.Lts as lts
 
 add-if1 : tie.Need-add-if1
 add-if1 c = search needs

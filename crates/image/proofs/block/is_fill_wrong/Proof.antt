@@ -1,3 +1,4 @@
+-- A count above fifteen leaves nothing to be blank; below, the fill is asked as it is defined.
 use Prim.Native.Nat.{_+_, _*_, _-_}
 use mathlib.Core.Path.{_≡_}
 use Rattle.rules.proofs.Bytes.{blank-true}
@@ -5,9 +6,6 @@ use native.Mathlib.Omega.{arith}
 use borrow.Author.Needs.{needs}
 use Rattle.image.proofs.block.is_fill_wrong.Statement.{statement}
 use Rattle.image.proofs.block.is_fill_wrong.Tie as tie
-use Rattle.image.proofs.block.is_fill_wrong.Reads as reads
-use Rattle.image.proofs.block.is_fill_wrong.Lts as lts
-use Rattle.image.proofs.bytes.is_blank.Reads as is-blank-reads
 
 returns : tie.Need-returns
 returns c =

@@ -1,16 +1,9 @@
+-- Each test in turn is that of the definition, which stops at the first that finds a fault.
 use borrow.Author.Tests.{eq-eqb, ne-eqb}
 use Rattle.rules.specs.Blocks.{headerWrong}
-use native.Mathlib.Omega.{arith}
 use borrow.Author.Needs.{needs}
 use Rattle.image.proofs.block.is_header_wrong.Statement.{statement}
 use Rattle.image.proofs.block.is_header_wrong.Tie as tie
-use Rattle.image.proofs.block.is_header_wrong.Reads as reads
-use Rattle.image.proofs.block.is_header_wrong.Lts as lts
-use Rattle.image.proofs.block.is_count_right.Reads as is-count-right-reads
-use Rattle.image.proofs.block.is_fill_wrong.Reads as is-fill-wrong-reads
-use Rattle.image.proofs.block.is_mark_wrong.Reads as is-mark-wrong-reads
-use Rattle.image.proofs.bytes.byte_at.Reads as byte-at-reads
-use Rattle.image.proofs.bytes.is_blank.Reads as is-blank-reads
 
 is-mark-wrong-requires : tie.Need-is-mark-wrong-requires
 is-mark-wrong-requires c κs = search needs

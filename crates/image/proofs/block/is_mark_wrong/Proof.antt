@@ -1,10 +1,7 @@
-use native.Mathlib.Omega.{arith}
+-- The letters are those of the form that the arm found.
 use borrow.Author.Needs.{needs}
 use Rattle.image.proofs.block.is_mark_wrong.Statement.{statement}
 use Rattle.image.proofs.block.is_mark_wrong.Tie as tie
-use Rattle.image.proofs.block.is_mark_wrong.Reads as reads
-use Rattle.image.proofs.block.is_mark_wrong.Lts as lts
-use Rattle.image.proofs.block.differs.Reads as differs-reads
 
 enum-told : tie.Need-enum-told
 enum-told c = search needs

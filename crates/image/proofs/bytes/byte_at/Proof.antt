@@ -1,12 +1,10 @@
+-- Inside the slice the byte is read; past its end every place reads as 0.
 use mathlib.Core.Path.{sym}
 use lib.ListN.{List·getD-eq-default}
 use native.Mathlib.Omega.{arith}
 use borrow.Author.Needs.{needs}
 use Rattle.image.proofs.bytes.byte_at.Statement.{statement}
 use Rattle.image.proofs.bytes.byte_at.Tie as tie
-use Rattle.image.proofs.bytes.byte_at.Reads as reads
-use Rattle.image.proofs.bytes.byte_at.Lts as lts
-use Rattle.image.proofs.bytes.wide.Reads as wide-reads
 
 shared-slice-read-wide : tie.Need-shared-slice-read-wide
 shared-slice-read-wide c = search needs

@@ -1,12 +1,9 @@
+-- Two numbers of two bytes make one of four; past the end both read as 0.
 use mathlib.Core.Path.{sym}
 use Rattle.rules.proofs.Bytes.{le4-past}
-use native.Mathlib.Omega.{arith}
 use borrow.Author.Needs.{needs}
 use Rattle.image.proofs.bytes.four_bytes.Statement.{statement}
 use Rattle.image.proofs.bytes.four_bytes.Tie as tie
-use Rattle.image.proofs.bytes.four_bytes.Reads as reads
-use Rattle.image.proofs.bytes.four_bytes.Lts as lts
-use Rattle.image.proofs.bytes.two_bytes.Reads as two-bytes-reads
 
 two-bytes-requires : tie.Need-two-bytes-requires
 two-bytes-requires c κs = search needs

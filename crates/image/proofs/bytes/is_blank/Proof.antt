@@ -1,3 +1,4 @@
+-- The loop keeps that every byte passed is zero; past the end of the slice every byte reads as 0.
 use Prim.Native.Nat.{ℕ, _+_, _-_, _≤_, _<_}
 use mathlib.Core.Path.{_≡_, sym}
 use borrow.Author.Count.{below-more}
@@ -11,9 +12,6 @@ use native.Mathlib.Omega.{arith}
 use borrow.Author.Needs.{needs}
 use Rattle.image.proofs.bytes.is_blank.Statement.{statement}
 use Rattle.image.proofs.bytes.is_blank.Tie as tie
-use Rattle.image.proofs.bytes.is_blank.Reads as reads
-use Rattle.image.proofs.bytes.is_blank.Lts as lts
-use Rattle.image.proofs.bytes.least.Reads as least-reads
 
 -- past the end of a list every place reads as 0
 past : (s : List ℕ) (start k : ℕ) → length s ≤ start → getD s (start + k) 0 ≡ 0

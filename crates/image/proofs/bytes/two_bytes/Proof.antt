@@ -1,12 +1,10 @@
+-- Two bytes are read one by one; past the end both read as 0.
 use mathlib.Core.Path.{sym}
 use Rattle.rules.proofs.Bytes.{le2-past}
 use native.Mathlib.Omega.{arith}
 use borrow.Author.Needs.{needs}
 use Rattle.image.proofs.bytes.two_bytes.Statement.{statement}
 use Rattle.image.proofs.bytes.two_bytes.Tie as tie
-use Rattle.image.proofs.bytes.two_bytes.Reads as reads
-use Rattle.image.proofs.bytes.two_bytes.Lts as lts
-use Rattle.image.proofs.bytes.byte_at.Reads as byte-at-reads
 
 byte-at-requires : tie.Need-byte-at-requires
 byte-at-requires c κs = search needs

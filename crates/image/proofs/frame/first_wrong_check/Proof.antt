@@ -1,19 +1,16 @@
-use mathlib.Core.Path.{_≡_, refl, sym, ap, _∙_}
+-- The loop keeps that no block passed has a wrong check; the part handed over is the block.
+use mathlib.Core.Path.{_≡_, sym, ap, _∙_}
 use Rattle.image.proofs.Parts.{part-size}
 use Rattle.rules.specs.Blocks.{blockAt, blockCount, checkWrong}
-use Prim.Native.Nat.{ℕ, _+_, _*_, _/_, _-_, _≤_, _<_}
+use Prim.Native.Nat.{ℕ, _*_, _-_, _≤_}
 use mathlib.Core.List.{List}
 use mathlib.Core.Bool.{Bool}
-use lib.ListN.{length}
 use Rattle.rules.specs.Numbers.{lowest}
 use Rattle.rules.proofs.Numbers.{lowest-more, lowest-here, lowest-zero}
 use native.Mathlib.Omega.{arith}
 use borrow.Author.Needs.{needs}
 use Rattle.image.proofs.frame.first_wrong_check.Statement.{statement}
 use Rattle.image.proofs.frame.first_wrong_check.Tie as tie
-use Rattle.image.proofs.frame.first_wrong_check.Reads as reads
-use Rattle.image.proofs.frame.first_wrong_check.Lts as lts
-use Rattle.image.proofs.block.is_check_wrong.Reads as is-check-wrong-reads
 
 abbrev fault : List ℕ → ℕ → Bool
 fault image b = checkWrong (blockAt image b)

@@ -1,9 +1,9 @@
-use mathlib.Core.Path.{_≡_, refl, sym, ap, _∙_}
+-- The loop keeps that no block passed has a wrong header; the part handed over is the block.
+use mathlib.Core.Path.{_≡_, sym, ap, _∙_}
 use Rattle.image.proofs.Parts.{part-size}
-use Prim.Native.Nat.{ℕ, _+_, _*_, _/_, _-_, _≤_, _<_}
+use Prim.Native.Nat.{ℕ, _*_, _-_, _≤_}
 use mathlib.Core.List.{List}
 use mathlib.Core.Bool.{Bool}
-use lib.ListN.{length}
 use Rattle.rules.specs.Numbers.{lowest}
 use Rattle.rules.proofs.Numbers.{lowest-more, lowest-here, lowest-zero}
 use Rattle.rules.specs.Blocks.{blockAt, blockCount, headerWrong}
@@ -12,9 +12,6 @@ use native.Mathlib.Omega.{arith}
 use borrow.Author.Needs.{needs}
 use Rattle.image.proofs.frame.first_wrong_header.Statement.{statement}
 use Rattle.image.proofs.frame.first_wrong_header.Tie as tie
-use Rattle.image.proofs.frame.first_wrong_header.Reads as reads
-use Rattle.image.proofs.frame.first_wrong_header.Lts as lts
-use Rattle.image.proofs.block.is_header_wrong.Reads as is-header-wrong-reads
 
 abbrev fault : Form → List ℕ → ℕ → Bool
 fault form image b = headerWrong form (blockCount image) b (blockAt image b)

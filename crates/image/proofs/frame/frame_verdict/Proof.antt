@@ -1,5 +1,6 @@
+-- Each check that finds a fault answers its refusal, and one that finds none leaves the answer to the next.
 use Prim.Native.Nat.{ℕ}
-use mathlib.Core.Path.{_≡_, sym, _∙_}
+use mathlib.Core.Path.{sym, _∙_}
 use mathlib.Core.Bool.{Bool}
 use Rattle.rules.specs.Blocks.{blockAt, blockCount, checkWrong, headerWrong}
 use Rattle.rules.specs.Refusals.{frameVerdict, numbered}
@@ -10,12 +11,6 @@ use native.Mathlib.Omega.{arith}
 use borrow.Author.Needs.{needs}
 use Rattle.image.proofs.frame.frame_verdict.Statement.{statement}
 use Rattle.image.proofs.frame.frame_verdict.Tie as tie
-use Rattle.image.proofs.frame.frame_verdict.Reads as reads
-use Rattle.image.proofs.frame.frame_verdict.Lts as lts
-use Rattle.image.proofs.frame.first_wrong_check.Reads as first-wrong-check-reads
-use Rattle.image.proofs.frame.first_wrong_header.Reads as first-wrong-header-reads
-use Rattle.image.proofs.frame.is_length_wrong.Reads as is-length-wrong-reads
-use Rattle.image.proofs.frame.refusal.Reads as refusal-reads
 
 is-length-wrong-requires : tie.Need-is-length-wrong-requires
 is-length-wrong-requires c κs = search needs

@@ -1,11 +1,8 @@
+-- Each test in turn is that of the definition.
 use borrow.Author.Tests.{eq-eqb, ne-eqb}
-use native.Mathlib.Omega.{arith}
 use borrow.Author.Needs.{needs}
 use Rattle.image.proofs.frame.is_length_wrong.Statement.{statement}
 use Rattle.image.proofs.frame.is_length_wrong.Tie as tie
-use Rattle.image.proofs.frame.is_length_wrong.Reads as reads
-use Rattle.image.proofs.frame.is_length_wrong.Lts as lts
-use Rattle.image.proofs.frame.most_blocks.Reads as most-blocks-reads
 
 returns : tie.Need-returns
 returns c = rw (eq-eqb _ _ (c .if1 .taken))

@@ -1,9 +1,7 @@
-use native.Mathlib.Omega.{arith}
+-- The number is that of the form which the arm found.
 use borrow.Author.Needs.{needs}
 use Rattle.image.proofs.frame.refusal.Statement.{statement}
 use Rattle.image.proofs.frame.refusal.Tie as tie
-use Rattle.image.proofs.frame.refusal.Reads as reads
-use Rattle.image.proofs.frame.refusal.Lts as lts
 
 enum-told : tie.Need-enum-told
 enum-told c = search needs

@@ -1,15 +1,13 @@
-use mathlib.Core.Path.{_≡_, sym, _∙_}
+-- A part cut off at the end of the image is the part that the definition takes.
+use mathlib.Core.Path.{sym, _∙_}
 use lib.ListN.{length}
 use Rattle.image.proofs.Parts.{part-past, part-clipped}
-use Prim.Native.Nat.{ℕ, _-_, _+_, _*_}
-use Rattle.rules.specs.Blocks.{recordStart, recordAt}
+use Prim.Native.Nat.{_-_}
+use Rattle.rules.specs.Blocks.{recordStart}
 use native.Mathlib.Omega.{arith}
 use borrow.Author.Needs.{needs}
 use Rattle.image.proofs.records.record_at.Statement.{statement}
 use Rattle.image.proofs.records.record_at.Tie as tie
-use Rattle.image.proofs.records.record_at.Reads as reads
-use Rattle.image.proofs.records.record_at.Lts as lts
-use Rattle.image.proofs.bytes.least.Reads as least-reads
 
 sub-result : tie.Need-sub-result
 sub-result c = search needs

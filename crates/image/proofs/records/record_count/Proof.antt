@@ -1,13 +1,11 @@
-use Prim.Native.Nat.{ℕ, _-_, _+_, _*_}
+-- With no block there is no full one, and the definition reads byte 4 alone.
+use Prim.Native.Nat.{_-_}
 use mathlib.Core.Path.{_≡_, _∙_}
 use Rattle.rules.specs.Blocks.{blockCount}
 use native.Mathlib.Omega.{arith}
 use borrow.Author.Needs.{needs}
 use Rattle.image.proofs.records.record_count.Statement.{statement}
 use Rattle.image.proofs.records.record_count.Tie as tie
-use Rattle.image.proofs.records.record_count.Reads as reads
-use Rattle.image.proofs.records.record_count.Lts as lts
-use Rattle.image.proofs.bytes.byte_at.Reads as byte-at-reads
 
 byte-at-requires : tie.Need-byte-at-requires
 byte-at-requires c κs = search needs

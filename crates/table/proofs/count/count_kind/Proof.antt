@@ -1,13 +1,12 @@
-use Prim.Native.Nat.{ℕ, _+_, _*_, _-_, _≤_, _<_}
-use mathlib.Core.Path.{_≡_, refl, sym, ap, _∙_}
-use mathlib.Core.List.{List, []}
-use mathlib.Core.Bool.{Bool, true, false}
+-- The loop keeps the count of the records passed that are of the kind.
+use Prim.Native.Nat.{ℕ, _+_, _-_, _≤_}
+use mathlib.Core.Path.{_≡_, sym, ap, _∙_}
+use mathlib.Core.Bool.{Bool}
 use lib.Dec.{eqb}
-use lib.ListN.{length, getD}
 use mathlib.Core.Logic.{⊎-elim}
 use borrow.Author.Tests.{eq-eqb, ne-eqb}
 use Rattle.rules.specs.Numbers.{countTo}
-use Rattle.rules.specs.Blocks.{records, recordAt, recordCount}
+use Rattle.rules.specs.Blocks.{recordAt, recordCount}
 use Rattle.rules.specs.Records.{kindOf}
 use Rattle.rules.proofs.Numbers.{sumTo-zero, countTo-passes, countTo-fails}
 use Rattle.rules.proofs.Table.Kinds.{length-ofKind-upTo}
@@ -15,11 +14,6 @@ use native.Mathlib.Omega.{arith}
 use borrow.Author.Needs.{needs}
 use Rattle.table.proofs.count.count_kind.Statement.{statement}
 use Rattle.table.proofs.count.count_kind.Tie as tie
-use Rattle.table.proofs.count.count_kind.Reads as reads
-use Rattle.table.proofs.count.count_kind.Lts as lts
-use Rattle.image.proofs.bytes.byte_at.Reads as byte-at-reads
-use Rattle.image.proofs.records.record_at.Reads as record-at-reads
-use Rattle.image.proofs.records.record_count.Reads as record-count-reads
 
 abbrev Inv-loop : tie.InvT-loop
 Inv-loop image kind count found₀ k₀ found k = (k ≤ count) × (found ≤ k) × (found ≡ countTo (λ i. eqb (kindOf (recordAt image i)) kind) k)

@@ -1,11 +1,9 @@
-use borrow.Author.Tests.{eq-eqb, ne-eqb, le-leb, lt-leb}
+-- Each test in turn is that of the definition.
+use borrow.Author.Tests.{le-leb, lt-leb}
 use native.Mathlib.Omega.{arith}
 use borrow.Author.Needs.{needs}
 use Rattle.table.proofs.count.slot.Statement.{statement}
 use Rattle.table.proofs.count.slot.Tie as tie
-use Rattle.table.proofs.count.slot.Reads as reads
-use Rattle.table.proofs.count.slot.Lts as lts
-use Rattle.image.proofs.bytes.byte_at.Reads as byte-at-reads
 
 byte-at-requires : tie.Need-byte-at-requires
 byte-at-requires c κs = search needs

@@ -1,8 +1,9 @@
+-- The loop keeps that each of the eight counts is that of the records passed.
 use mathlib.Core.Bool.{cond}
-use Prim.Native.Nat.{ℕ, _+_, _*_, _-_, _≤_, _<_}
+use Prim.Native.Nat.{ℕ, _+_, _-_, _≤_, _<_}
 use mathlib.Core.Path.{_≡_, refl, sym, ap, _∙_}
 use mathlib.Core.List.{List, []}
-use mathlib.Core.Bool.{Bool, true, false}
+use mathlib.Core.Bool.{Bool}
 use lib.Dec.{eqb}
 use lib.ListN.{length, getD, set, length-set, getD-replicate}
 use lib.Seq.{getD-set-same, getD-set-other}
@@ -14,11 +15,6 @@ use native.Mathlib.Omega.{arith}
 use borrow.Author.Needs.{needs}
 use Rattle.table.proofs.count.tally.Statement.{statement}
 use Rattle.table.proofs.count.tally.Tie as tie
-use Rattle.table.proofs.count.tally.Reads as reads
-use Rattle.table.proofs.count.tally.Lts as lts
-use Rattle.image.proofs.records.record_at.Reads as record-at-reads
-use Rattle.image.proofs.records.record_count.Reads as record-count-reads
-use Rattle.table.proofs.count.slot.Reads as slot-reads
 
 -- one more record is counted where it belongs, and nowhere else
 one-more : (rs : List (List ℕ)) (counts : List ℕ) (k at : ℕ) → at < 8 → slotOf (getD rs k []) ≡ at → length counts ≡ 8

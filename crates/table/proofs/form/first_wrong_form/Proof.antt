@@ -1,8 +1,9 @@
-use Prim.Native.Nat.{ℕ, _+_, _*_, _-_, _≤_, _<_}
-use mathlib.Core.Path.{_≡_, refl, sym, ap, _∙_}
+-- The loop keeps that no record passed is of a wrong form.
+use Prim.Native.Nat.{ℕ, _-_, _≤_, _<_}
+use mathlib.Core.Path.{_≡_, sym, ap, _∙_}
 use mathlib.Core.List.{List, []}
 use mathlib.Core.Bool.{Bool}
-use lib.ListN.{length, getD}
+use lib.ListN.{getD}
 use Rattle.rules.specs.Numbers.{lowest}
 use Rattle.rules.specs.Blocks.{records, recordAt, recordCount}
 use Rattle.rules.proofs.Numbers.{lowest-more, lowest-here, lowest-zero, getD-upTo}
@@ -12,11 +13,6 @@ use native.Mathlib.Omega.{arith}
 use borrow.Author.Needs.{needs}
 use Rattle.table.proofs.form.first_wrong_form.Statement.{statement}
 use Rattle.table.proofs.form.first_wrong_form.Tie as tie
-use Rattle.table.proofs.form.first_wrong_form.Reads as reads
-use Rattle.table.proofs.form.first_wrong_form.Lts as lts
-use Rattle.image.proofs.records.record_at.Reads as record-at-reads
-use Rattle.image.proofs.records.record_count.Reads as record-count-reads
-use Rattle.table.proofs.form.is_form_wrong.Reads as is-form-wrong-reads
 
 -- record k of the image is at fault
 abbrev fault : Form → List ℕ → ℕ → Bool

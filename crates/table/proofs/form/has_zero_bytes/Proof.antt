@@ -1,12 +1,8 @@
-use borrow.Author.Tests.{eq-eqb, ne-eqb, le-leb, lt-leb, not-true, not-false}
-use native.Mathlib.Omega.{arith}
+-- Each test in turn is that of the definition for the kind at hand.
+use borrow.Author.Tests.{eq-eqb, ne-eqb, not-true, not-false}
 use borrow.Author.Needs.{needs}
 use Rattle.table.proofs.form.has_zero_bytes.Statement.{statement}
 use Rattle.table.proofs.form.has_zero_bytes.Tie as tie
-use Rattle.table.proofs.form.has_zero_bytes.Reads as reads
-use Rattle.table.proofs.form.has_zero_bytes.Lts as lts
-use Rattle.image.proofs.bytes.byte_at.Reads as byte-at-reads
-use Rattle.image.proofs.bytes.is_blank.Reads as is-blank-reads
 
 byte-at-requires : tie.Need-byte-at-requires
 byte-at-requires c κs = search needs

@@ -1,14 +1,9 @@
-use borrow.Author.Tests.{eq-eqb, ne-eqb, le-leb, lt-leb}
+-- Each test in turn is that of the definition.
+use borrow.Author.Tests.{le-leb, lt-leb}
 use Rattle.rules.specs.Records.{formWrong}
-use native.Mathlib.Omega.{arith}
 use borrow.Author.Needs.{needs}
 use Rattle.table.proofs.form.is_form_wrong.Statement.{statement}
 use Rattle.table.proofs.form.is_form_wrong.Tie as tie
-use Rattle.table.proofs.form.is_form_wrong.Reads as reads
-use Rattle.table.proofs.form.is_form_wrong.Lts as lts
-use Rattle.image.proofs.bytes.byte_at.Reads as byte-at-reads
-use Rattle.table.proofs.form.has_zero_bytes.Reads as has-zero-bytes-reads
-use Rattle.table.proofs.form.most_way.Reads as most-way-reads
 
 byte-at-requires : tie.Need-byte-at-requires
 byte-at-requires c κs = search needs

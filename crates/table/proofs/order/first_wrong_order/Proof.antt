@@ -1,10 +1,10 @@
+-- The loop keeps the key of the record before, and that no record passed is out of order.
 use borrow.Author.Tests.{lt-ltb, le-leb, lt-leb}
 use mathlib.Core.Bool.{true, false}
-use Prim.Native.Nat.{ℕ, _+_, _*_, _-_, _≤_, _<_}
+use Prim.Native.Nat.{_+_, _-_, _≤_, _<_}
 use mathlib.Core.Path.{_≡_, refl, sym, ap, _∙_}
-use mathlib.Core.List.{List, []}
-use mathlib.Core.Bool.{Bool}
-use lib.ListN.{length, getD}
+use mathlib.Core.List.{[]}
+use lib.ListN.{getD}
 use Rattle.rules.specs.Numbers.{lowest}
 use Rattle.rules.specs.Blocks.{records, recordAt, recordCount}
 use Rattle.rules.specs.Records.{imageKey}
@@ -14,11 +14,6 @@ use native.Mathlib.Omega.{arith}
 use borrow.Author.Needs.{needs}
 use Rattle.table.proofs.order.first_wrong_order.Statement.{statement}
 use Rattle.table.proofs.order.first_wrong_order.Tie as tie
-use Rattle.table.proofs.order.first_wrong_order.Reads as reads
-use Rattle.table.proofs.order.first_wrong_order.Lts as lts
-use Rattle.image.proofs.records.record_at.Reads as record-at-reads
-use Rattle.image.proofs.records.record_count.Reads as record-count-reads
-use Rattle.table.proofs.order.image_key.Reads as image-key-reads
 
 abbrev Inv-loop : tie.InvT-loop
 Inv-loop image count before₀ k₀ before k = (0 < k) × (k ≤ count) × (before ≡ imageKey (getD (records image) (k - 1) [])) × (lowest (orderWrong (records image)) k ≡ k)

@@ -1,12 +1,9 @@
-use borrow.Author.Tests.{eq-eqb, ne-eqb, le-leb, lt-leb, not-true, not-false}
+-- The key is put together as the definition does; kind, number and second task are below their limits.
+use borrow.Author.Tests.{eq-eqb, ne-eqb}
 use native.Mathlib.Omega.{arith}
 use borrow.Author.Needs.{needs}
 use Rattle.table.proofs.order.key.Statement.{statement}
 use Rattle.table.proofs.order.key.Tie as tie
-use Rattle.table.proofs.order.key.Reads as reads
-use Rattle.table.proofs.order.key.Lts as lts
-use Rattle.image.proofs.bytes.byte_at.Reads as byte-at-reads
-use Rattle.image.proofs.bytes.two_bytes.Reads as two-bytes-reads
 
 byte-at-requires : tie.Need-byte-at-requires
 byte-at-requires c κs = search needs

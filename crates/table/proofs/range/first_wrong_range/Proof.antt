@@ -1,8 +1,9 @@
-use Prim.Native.Nat.{ℕ, _+_, _*_, _-_, _≤_, _<_}
-use mathlib.Core.Path.{_≡_, refl, sym, ap, _∙_}
+-- The loop keeps that no record passed has a field out of range.
+use Prim.Native.Nat.{ℕ, _-_, _≤_, _<_}
+use mathlib.Core.Path.{_≡_, sym, ap, _∙_}
 use mathlib.Core.List.{List, []}
 use mathlib.Core.Bool.{Bool}
-use lib.ListN.{length, getD}
+use lib.ListN.{getD}
 use Rattle.rules.specs.Numbers.{lowest}
 use Rattle.rules.specs.Blocks.{records, recordAt, recordCount}
 use Rattle.rules.proofs.Numbers.{lowest-more, lowest-here, lowest-zero, getD-upTo}
@@ -11,11 +12,6 @@ use native.Mathlib.Omega.{arith}
 use borrow.Author.Needs.{needs}
 use Rattle.table.proofs.range.first_wrong_range.Statement.{statement}
 use Rattle.table.proofs.range.first_wrong_range.Tie as tie
-use Rattle.table.proofs.range.first_wrong_range.Reads as reads
-use Rattle.table.proofs.range.first_wrong_range.Lts as lts
-use Rattle.image.proofs.records.record_at.Reads as record-at-reads
-use Rattle.image.proofs.records.record_count.Reads as record-count-reads
-use Rattle.table.proofs.range.is_range_wrong.Reads as is-range-wrong-reads
 
 -- record k of the image is at fault
 abbrev fault : List ℕ → ℕ → Bool

@@ -1,10 +1,7 @@
-use borrow.Author.Tests.{eq-eqb, ne-eqb, le-leb, lt-leb, not-true, not-false}
-use native.Mathlib.Omega.{arith}
-use borrow.Author.Needs.{needs}
+-- Each test in turn is that of the definition.
+use borrow.Author.Tests.{le-leb, lt-leb}
 use Rattle.table.proofs.range.is_jitter_right.Statement.{statement}
 use Rattle.table.proofs.range.is_jitter_right.Tie as tie
-use Rattle.table.proofs.range.is_jitter_right.Reads as reads
-use Rattle.table.proofs.range.is_jitter_right.Lts as lts
 
 returns : tie.Need-returns
 returns c = rw (le-leb _ _ (c .if1 .taken))

@@ -1,15 +1,9 @@
-use borrow.Author.Tests.{eq-eqb, ne-eqb, le-leb, lt-leb}
+-- The test is that of the kind at hand.
+use borrow.Author.Tests.{eq-eqb, ne-eqb}
 use Rattle.rules.specs.Records.{rangeWrong}
-use native.Mathlib.Omega.{arith}
 use borrow.Author.Needs.{needs}
 use Rattle.table.proofs.range.is_range_wrong.Statement.{statement}
 use Rattle.table.proofs.range.is_range_wrong.Tie as tie
-use Rattle.table.proofs.range.is_range_wrong.Reads as reads
-use Rattle.table.proofs.range.is_range_wrong.Lts as lts
-use Rattle.image.proofs.bytes.byte_at.Reads as byte-at-reads
-use Rattle.table.proofs.range.is_pair_right.Reads as is-pair-right-reads
-use Rattle.table.proofs.range.is_task_right.Reads as is-task-right-reads
-use Rattle.table.proofs.range.is_transaction_right.Reads as is-transaction-right-reads
 
 byte-at-requires : tie.Need-byte-at-requires
 byte-at-requires c κs = search needs

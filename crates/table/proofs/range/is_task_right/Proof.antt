@@ -1,13 +1,8 @@
+-- Each test in turn is that of the definition.
 use borrow.Author.Tests.{not-true, not-false}
-use native.Mathlib.Omega.{arith}
 use borrow.Author.Needs.{needs}
 use Rattle.table.proofs.range.is_task_right.Statement.{statement}
 use Rattle.table.proofs.range.is_task_right.Tie as tie
-use Rattle.table.proofs.range.is_task_right.Reads as reads
-use Rattle.table.proofs.range.is_task_right.Lts as lts
-use Rattle.image.proofs.bytes.two_bytes.Reads as two-bytes-reads
-use Rattle.table.proofs.range.is_name_right.Reads as is-name-right-reads
-use Rattle.table.proofs.range.is_time_right.Reads as is-time-right-reads
 
 is-name-right-requires : tie.Need-is-name-right-requires
 is-name-right-requires c κs = search needs

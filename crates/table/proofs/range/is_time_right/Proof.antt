@@ -1,12 +1,8 @@
-use borrow.Author.Tests.{eq-eqb, ne-eqb, le-leb, lt-leb, not-true, not-false}
-use native.Mathlib.Omega.{arith}
+-- Each test in turn is that of the definition.
+use borrow.Author.Tests.{le-leb, lt-leb, not-true, not-false}
 use borrow.Author.Needs.{needs}
 use Rattle.table.proofs.range.is_time_right.Statement.{statement}
 use Rattle.table.proofs.range.is_time_right.Tie as tie
-use Rattle.table.proofs.range.is_time_right.Reads as reads
-use Rattle.table.proofs.range.is_time_right.Lts as lts
-use Rattle.image.proofs.bytes.four_bytes.Reads as four-bytes-reads
-use Rattle.table.proofs.range.is_jitter_right.Reads as is-jitter-right-reads
 
 four-bytes-requires : tie.Need-four-bytes-requires
 four-bytes-requires c κs = search needs

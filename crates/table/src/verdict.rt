@@ -1,0 +1,116 @@
+// The verdict on a whole image, as a table and as a patch.
+ghost use mathlib.Core.Path.{_≡_};
+ghost use mathlib.Core.Bool.{true, _||_};
+ghost use Prim.Native.Nat.{_+_, _≤_};
+ghost use lib.Dec.{ltb};
+ghost use lib.ListN.{length, getD};
+ghost use Rattle.rules.specs.Blocks.{records, recordCount};
+ghost use Rattle.rules.specs.Records.{tooMany};
+ghost use Rattle.rules.specs.Refusals.{accepted, recordsVerdict, countRefusal, referenceRefusal, tableVerdict, patchVerdict};
+ghost use Rattle.rules.specs.declared.Form.the-variants.{Table};
+ghost use Rattle.table.specs.Tally.{Tallied};
+use crate::count::tally;
+use crate::form::first_wrong_form;
+use crate::order::first_wrong_order;
+use crate::range::first_wrong_range;
+use crate::reference::first_wrong_reference;
+use image::frame::frame_verdict;
+use image::frame::refusal;
+use image::records::record_count;
+use rules::Form;
+use rules::Verdict;
+
+// Whether a tally has more records of a kind than may be taken out, or put in.
+fn has_too_many(counts: [u32; 8], kind: usize, most: u32) -> bool
+    requires { ⌜ (kind ≤ 3) × (8 ≡ length counts) ⌝ }
+    ensures { λ r. ⌜ r ≡ (ltb most (getD counts kind 0) || ltb most (getD counts (kind + 4) 0)) ⌝ }
+{
+    if most < counts[kind] {
+        return true;
+    }
+    most < counts[kind + 4]
+}
+
+// 7: too many of a kind.
+fn count_verdict(form: Form, image: &[u8]) -> Verdict
+    requires { ⌜ recordCount (now image) ≤ 1000 ⌝ }
+    ensures { λ r. ⌜ r ≡ countRefusal form (records (now (image .entry))) ⌝ }
+{
+    let counts = tally(image);
+    if has_too_many(counts, 1, 16) {
+        return refusal(form, 7, 1);
+    }
+    if has_too_many(counts, 2, 64) {
+        return refusal(form, 7, 2);
+    }
+    if has_too_many(counts, 3, 256) {
+        return refusal(form, 7, 3);
+    }
+    Verdict {
+        number: 0,
+        place: 0,
+    }
+}
+
+// 4 to 7: form, then order, then ranges, then counts, each over the whole image before the next.
+fn records_verdict(form: Form, image: &[u8]) -> Verdict
+    requires { ⌜ recordCount (now image) ≤ 1000 ⌝ }
+    ensures { λ r. ⌜ r ≡ recordsVerdict form (records (now (image .entry))) ⌝ }
+{
+    let count = record_count(image);
+    let misformed = first_wrong_form(form, image);
+    if misformed < count {
+        return refusal(form, 4, misformed as u32);
+    }
+    let misplaced = first_wrong_order(image);
+    if misplaced < count {
+        return refusal(form, 5, misplaced as u32);
+    }
+    let outside = first_wrong_range(image);
+    if outside < count {
+        return refusal(form, 6, outside as u32);
+    }
+    count_verdict(form, image)
+}
+
+// 8: what a table's records refer to.
+fn reference_verdict(image: &[u8]) -> Verdict
+    requires { ⌜ recordCount (now image) ≤ 1000 ⌝ }
+    requires { ⌜ accepted (recordsVerdict Table (records (now image))) ≡ true ⌝ }
+    ensures { λ r. ⌜ r ≡ referenceRefusal (records (now (image .entry))) ⌝ }
+{
+    let unlisted = first_wrong_reference(image);
+    if unlisted < record_count(image) {
+        return refusal(Form::Table, 8, unlisted as u32);
+    }
+    Verdict {
+        number: 0,
+        place: 0,
+    }
+}
+
+// The verdict on an image as a table: 1 to 8 with its place, or 0 and 0.
+pub fn table_verdict(image: &[u8]) -> Verdict
+    ensures { λ r. ⌜ r ≡ tableVerdict (now (image .entry)) ⌝ }
+{
+    let frame = frame_verdict(Form::Table, image);
+    if frame.number != 0 {
+        return frame;
+    }
+    let body = records_verdict(Form::Table, image);
+    if body.number != 0 {
+        return body;
+    }
+    reference_verdict(image)
+}
+
+// The verdict on an image as a patch: 21 to 27 with its place, or 0 and 0.
+pub fn patch_verdict(image: &[u8]) -> Verdict
+    ensures { λ r. ⌜ r ≡ patchVerdict (now (image .entry)) ⌝ }
+{
+    let frame = frame_verdict(Form::Patch, image);
+    if frame.number != 0 {
+        return frame;
+    }
+    records_verdict(Form::Patch, image)
+}

@@ -1,0 +1,37 @@
+//! The six tasks of figure 2 as a table.
+
+use crate::records::{Task, Transaction};
+use crate::table::Table;
+
+/// Figure 2 with period 10,000 in both transactions and every jitter written as 0.
+pub fn figure2() -> Table {
+    let transaction = |number| Transaction {
+        number,
+        period: 10_000,
+    };
+    Table {
+        transactions: vec![transaction(1), transaction(2)],
+        tasks: vec![
+            task(11, 0, 1, 3854, 4),
+            task(12, 1697, 2, 3837, 1),
+            task(13, 4635, 4, 4781, 2),
+            task(21, 0, 3, 393, 2),
+            task(22, 617, 1, 3854, 1),
+            task(23, 2588, 3, 3699, 3),
+        ],
+        pairs: Vec::new(),
+    }
+}
+
+/// A task of figure 2, whose id starts with its transaction's number.
+fn task(id: u16, offset: u32, priority: u16, response: u32, stack: u16) -> Task {
+    Task {
+        id,
+        transaction: id / 10,
+        priority,
+        offset,
+        jitter: 0,
+        response,
+        stack,
+    }
+}

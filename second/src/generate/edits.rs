@@ -1,0 +1,130 @@
+//! Changes to a table after which it still keeps every rule.
+
+use crate::generate::misfits::{unused_number, unused_record};
+use crate::generate::random::Random;
+use crate::generate::task_values::draw_lone_task;
+use crate::record_faults::MOST_PERIOD;
+use crate::records::{Pair, PairSort, Transaction, PAIR, TASK, TRANSACTION};
+use crate::table::Table;
+
+/// The table after one change, or as it was where the change has nothing to work on.
+pub fn edited(random: &mut Random, table: &Table) -> Table {
+    let mut new = table.clone();
+    let edit = random.pick(&[
+        put_in_task,
+        put_in_task,
+        take_out_task,
+        change_task,
+        change_task,
+        put_in_transaction,
+        take_out_transaction,
+        change_period,
+        put_in_pair,
+        put_in_pair,
+        take_out_pair,
+        change_pair,
+    ]);
+    edit(random, &mut new);
+    Table::read(&new.records())
+}
+
+fn put_in_task(random: &mut Random, table: &mut Table) {
+    if table.tasks.len() < 64 && !table.transactions.is_empty() {
+        let id = match random.one_in(2) {
+            true => unused_number(random, &table.records(), TASK),
+            false => lowest_unused_id(table),
+        };
+        let transaction = random.pick(&table.transactions);
+        table.tasks.push(draw_lone_task(random, id, &transaction));
+    }
+}
+
+/// The lowest id that no task has, so that the places of others shift.
+fn lowest_unused_id(table: &Table) -> u16 {
+    (1..=u16::MAX)
+        .find(|id| table.place_of(*id).is_none())
+        .expect("64 tasks leave ids unused")
+}
+
+fn take_out_task(random: &mut Random, table: &mut Table) {
+    if !table.tasks.is_empty() {
+        let id = random.pick(&table.tasks).id;
+        take_out_tasks(table, &[id]);
+    }
+}
+
+/// Takes out these tasks and every pair that names one of them.
+fn take_out_tasks(table: &mut Table, ids: &[u16]) {
+    table.tasks.retain(|task| !ids.contains(&task.id));
+    table
+        .pairs
+        .retain(|pair| !ids.iter().any(|id| pair.names(*id)));
+}
+
+fn change_task(random: &mut Random, table: &mut Table) {
+    if !table.tasks.is_empty() {
+        let place = random.rank(table.tasks.len());
+        let transaction = random.pick(&table.transactions);
+        let id = table.tasks[place].id;
+        table.tasks[place] = draw_lone_task(random, id, &transaction);
+    }
+}
+
+fn put_in_transaction(random: &mut Random, table: &mut Table) {
+    if table.transactions.len() < 16 {
+        let record = unused_record(random, &table.records(), TRANSACTION);
+        table.transactions.push(Transaction::read(&record));
+    }
+}
+
+fn take_out_transaction(random: &mut Random, table: &mut Table) {
+    if !table.transactions.is_empty() {
+        let number = random.pick(&table.transactions).number;
+        let own = table.tasks.iter().filter(|task| task.transaction == number);
+        let ids: Vec<u16> = own.map(|task| task.id).collect();
+        take_out_tasks(table, &ids);
+        table.transactions.retain(|kept| kept.number != number);
+    }
+}
+
+fn change_period(random: &mut Random, table: &mut Table) {
+    if table.transactions.is_empty() {
+        return;
+    }
+    let rank = random.rank(table.transactions.len());
+    let number = table.transactions[rank].number;
+    let own = table.tasks.iter().filter(|task| task.transaction == number);
+    let shortest = own.map(|task| task.offset + 1).max().unwrap_or(1);
+    table.transactions[rank].period = match random.rank(3) {
+        0 => shortest,
+        1 => random.time(shortest, (shortest + 100).min(MOST_PERIOD)),
+        _ => random.time(shortest, MOST_PERIOD),
+    };
+}
+
+fn put_in_pair(random: &mut Random, table: &mut Table) {
+    if table.tasks.len() >= 2 && table.pairs.len() < 256 {
+        let pair = Pair::read(&unused_record(random, &table.records(), PAIR));
+        if table.place_of(pair.first).is_some() && table.place_of(pair.second).is_some() {
+            table.pairs.push(pair);
+        }
+    }
+}
+
+fn take_out_pair(random: &mut Random, table: &mut Table) {
+    if !table.pairs.is_empty() {
+        let rank = random.rank(table.pairs.len());
+        table.pairs.remove(rank);
+    }
+}
+
+fn change_pair(random: &mut Random, table: &mut Table) {
+    if !table.pairs.is_empty() {
+        let rank = random.rank(table.pairs.len());
+        let pair = &mut table.pairs[rank];
+        pair.sort = match pair.sort {
+            PairSort::OneWay => PairSort::Precedence,
+            PairSort::Precedence => PairSort::OneWay,
+        };
+    }
+}

@@ -1,0 +1,61 @@
+//! The maps that bound and patch calls read.
+
+use crate::generate::random::Random;
+use crate::generate::task_values::MANY_TASKS;
+use crate::preempt::{true_map, MAP_ROWS};
+use crate::table::Table;
+
+/// More priorities than this are many.
+const MANY_PRIORITIES: usize = 10;
+
+/// A map of this many rows to be read along with the table.
+pub fn map_for(random: &mut Random, table: &Table, rows: usize) -> Vec<u64> {
+    let mut map = match is_hard(table) {
+        true => thin_map(random),
+        false => any_map(random, table),
+    };
+    map.resize_with(rows, || random.bits());
+    map
+}
+
+/// Whether a thick map over this table would give too many chains to look at one by one.
+fn is_hard(table: &Table) -> bool {
+    let mut priorities: Vec<u16> = table.tasks.iter().map(|task| task.priority).collect();
+    priorities.sort_unstable();
+    priorities.dedup();
+    table.tasks.len() > MANY_TASKS && priorities.len() > MANY_PRIORITIES
+}
+
+/// A map of 64 rows with about one cell in eight set, or none.
+fn thin_map(random: &mut Random) -> Vec<u64> {
+    match random.one_in(5) {
+        true => vec![0; MAP_ROWS],
+        false => (0..MAP_ROWS)
+            .map(|_| random.bits() & random.bits() & random.bits())
+            .collect(),
+    }
+}
+
+fn any_map(random: &mut Random, table: &Table) -> Vec<u64> {
+    match random.rank(10) {
+        0..=2 => true_map(table).to_vec(),
+        3 => true_map_and_more(random, table),
+        4..=6 => (0..MAP_ROWS).map(|_| random.bits()).collect(),
+        7 => thin_map(random),
+        8 => vec![u64::MAX; MAP_ROWS],
+        _ => vec![0; MAP_ROWS],
+    }
+}
+
+/// The true map with random cells in the rows and columns beyond the tasks.
+pub fn true_map_and_more(random: &mut Random, table: &Table) -> Vec<u64> {
+    let tasks = table.tasks.len();
+    let among_tasks = u64::MAX.checked_shr(64 - tasks as u32).unwrap_or(0);
+    let stray = |row: usize, bits: u64| match row < tasks {
+        true => bits & !among_tasks,
+        false => bits,
+    };
+    let rows = true_map(table).into_iter().enumerate();
+    rows.map(|(row, bits)| bits | stray(row, random.bits()))
+        .collect()
+}

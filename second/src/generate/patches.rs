@@ -1,0 +1,117 @@
+//! Patches that fit a base, and patches that fail on it.
+
+use crate::generate::damaged_images::patch_records;
+use crate::generate::edits::edited;
+use crate::generate::misfits::{misfit_a_record, one_too_many, unused_record};
+use crate::generate::random::Random;
+use crate::generate::tables::any_table;
+use crate::records::{
+    Record, JITTER_AT, PAIR, PAIR_SORT_AT, PERIOD_AT, RESPONSE_AT, STACK_AT, TAKEN_OUT, TASK,
+    TRANSACTION,
+};
+use crate::table::Table;
+
+/// A patch that the base accepts.
+pub fn fitting_patch(random: &mut Random, base: &Table) -> Vec<Record> {
+    let target = match random.rank(20) {
+        0 => base.clone(),
+        1 => Table::default(),
+        2 => any_table(random),
+        _ => (0..random.count(1, 4)).fold(base.clone(), |table, _| edited(random, &table)),
+    };
+    let put_back = match random.one_in(3) {
+        true => random.count(1, 3),
+        false => 0,
+    };
+    let put_back = some_of(random, &base.records(), put_back);
+    difference(&base.records(), &target.records(), &put_back)
+}
+
+/// This many of the records, or fewer.
+fn some_of(random: &mut Random, records: &[Record], count: usize) -> Vec<Record> {
+    match records.is_empty() {
+        true => Vec::new(),
+        false => (0..count).map(|_| random.pick(records)).collect(),
+    }
+}
+
+/// The patch from one table to another; records to put back that both have are taken out and put in.
+fn difference(base: &[Record], target: &[Record], put_back: &[Record]) -> Vec<Record> {
+    let moved = |from: &[Record], to: &[Record]| -> Vec<Record> {
+        from.iter()
+            .filter(|record| !to.contains(record) || put_back.contains(record))
+            .copied()
+            .collect()
+    };
+    patch_records(&moved(base, target), &moved(target, base))
+}
+
+/// A patch that takes out a record that is not in the base, byte for byte.
+pub fn absent_record(random: &mut Random, base: &[Record]) -> Vec<Record> {
+    let mut patch = fitting_patch(random, &Table::read(base));
+    let kind = random.pick(&[TRANSACTION, TASK, PAIR]);
+    let absent = match base.is_empty() || random.one_in(3) {
+        true => unused_record(random, base, kind),
+        false => {
+            let present = base[random.low_or_high_rank(base.len())];
+            slightly_changed(random, present)
+        }
+    };
+    patch.retain(|record| record.way() != TAKEN_OUT || record.key() != absent.key());
+    patch.push(absent);
+    patch.sort_by_key(Record::order);
+    patch
+}
+
+/// The record with one byte changed that is not part of its key and keeps its range, mostly.
+fn slightly_changed(random: &mut Random, mut record: Record) -> Record {
+    let at = match record.kind() {
+        TRANSACTION => random.pick(&[PERIOD_AT, PERIOD_AT + 1]),
+        TASK => random.pick(&[STACK_AT, STACK_AT + 1, JITTER_AT, RESPONSE_AT + 1]),
+        _ => PAIR_SORT_AT,
+    };
+    record.0[at] ^= 1;
+    record
+}
+
+/// A patch whose outcome is no table.
+pub fn breaking_patch(random: &mut Random, base: &[Record]) -> Vec<Record> {
+    match random.rank(8) {
+        0 | 1 => put_in_twice(random, base),
+        2 => patch_records(&[], &one_too_many(random, base)),
+        3..=5 => lose_reference(random, base),
+        _ => {
+            let mut target = base.to_vec();
+            misfit_a_record(random, &mut target);
+            difference(base, &target, &[])
+        }
+    }
+}
+
+/// A patch that puts in a key which stays in the base, with the same bytes or others.
+fn put_in_twice(random: &mut Random, base: &[Record]) -> Vec<Record> {
+    if base.is_empty() {
+        return vec![];
+    }
+    let present = base[random.low_or_high_rank(base.len())];
+    let again = match random.one_in(2) {
+        true => present,
+        false => slightly_changed(random, present),
+    };
+    patch_records(&[], &[again])
+}
+
+/// A patch that takes out a transaction or a task, mostly one that other records name.
+fn lose_reference(random: &mut Random, base: &[Record]) -> Vec<Record> {
+    let table = Table::read(base);
+    let named = |record: &&Record| match record.kind() {
+        TRANSACTION => table
+            .tasks
+            .iter()
+            .any(|task| task.transaction == record.number()),
+        TASK => table.pairs.iter().any(|pair| pair.names(record.number())),
+        _ => false,
+    };
+    let candidates: Vec<Record> = base.iter().filter(named).copied().collect();
+    patch_records(&some_of(random, &candidates, 1), &[])
+}

@@ -1,0 +1,123 @@
+//! The values of transactions and tasks: at the ends of their ranges, and at the edges of the decision.
+
+use crate::generate::random::Random;
+use crate::preempt::distance;
+use crate::record_faults::{MOST_PERIOD, MOST_PRIORITY, MOST_RESPONSE};
+use crate::records::{Task, Transaction, MISSING_JITTER};
+use crate::table::Table;
+
+/// What the tasks of one table have in common.
+pub struct Style {
+    priorities: Vec<u16>,
+    stacks: Vec<u16>,
+    longest_period: u32,
+}
+
+/// Tables with more tasks than this mostly have few priorities, and a thin map where they have many.
+pub const MANY_TASKS: usize = 30;
+
+impl Style {
+    /// A style for a table of this many tasks.
+    pub fn draw(random: &mut Random, tasks: usize) -> Style {
+        let stacks = match random.rank(5) {
+            0 => vec![random.short(1, 9)],
+            1 => vec![1, 2, 3],
+            2 => vec![1, u16::MAX],
+            _ => (0..tasks.max(1)).map(|_| random.short(1, 500)).collect(),
+        };
+        let most = match tasks {
+            ..=MANY_TASKS => random.pick(&[1, 4, 10, 255]),
+            _ if stacks.len() <= 3 => 6,
+            _ => random.pick(&[5, 8, 8, 255]),
+        };
+        Style {
+            priorities: draw_priorities(random, most),
+            stacks,
+            longest_period: random.pick(&[1, 2, 10, 100, 10_000, MOST_PERIOD]),
+        }
+    }
+}
+
+/// This many priorities at most, often with both ends of the range among them.
+fn draw_priorities(random: &mut Random, most: usize) -> Vec<u16> {
+    match most {
+        1 => vec![random.short(1, MOST_PRIORITY)],
+        255 => (1..=MOST_PRIORITY).collect(),
+        _ => (2..most)
+            .map(|_| random.short(1, MOST_PRIORITY))
+            .chain([1, MOST_PRIORITY])
+            .collect(),
+    }
+}
+
+/// A period that the style allows, often the longest.
+pub fn draw_period(random: &mut Random, style: &Style) -> u32 {
+    match random.rank(3) {
+        0 => random.time(1, style.longest_period),
+        _ => style.longest_period,
+    }
+}
+
+/// A task of this transaction with every value in its range.
+pub fn draw_task(random: &mut Random, style: &Style, id: u16, transaction: &Transaction) -> Task {
+    let offset = match random.rank(5) {
+        0 => 0,
+        1 => transaction.period - 1,
+        _ => random.time(0, transaction.period - 1),
+    };
+    Task {
+        id,
+        transaction: transaction.number,
+        priority: random.pick(&style.priorities),
+        offset,
+        jitter: draw_jitter(random, transaction.period),
+        response: draw_response(random, offset, transaction.period),
+        stack: random.pick(&style.stacks),
+    }
+}
+
+/// A task in a table of its own style.
+pub fn draw_lone_task(random: &mut Random, id: u16, transaction: &Transaction) -> Task {
+    let style = Style::draw(random, 1);
+    draw_task(random, &style, id, transaction)
+}
+
+fn draw_jitter(random: &mut Random, period: u32) -> u32 {
+    match random.rank(8) {
+        0..=2 => 0,
+        3 => MISSING_JITTER,
+        4 => MOST_PERIOD,
+        5 => 1,
+        6 => random.time(0, MOST_PERIOD),
+        _ => random.time(0, period),
+    }
+}
+
+fn draw_response(random: &mut Random, offset: u32, period: u32) -> u32 {
+    match random.rank(6) {
+        0 => offset,
+        1 => offset + 1,
+        2 => MOST_RESPONSE,
+        3 => offset + period,
+        _ => (offset + random.time(0, period)).min(MOST_RESPONSE),
+    }
+}
+
+/// Sets some responses and jitters to the last value that says no or the first that says yes.
+pub fn sharpen(random: &mut Random, table: &mut Table) {
+    for _ in 0..table.tasks.len() / 2 {
+        let lower = random.rank(table.tasks.len());
+        let upper = random.rank(table.tasks.len());
+        let (below, above) = (table.tasks[lower], table.tasks[upper]);
+        let period = table.period_of(below.transaction).unwrap_or(1);
+        if below.transaction != above.transaction || below.priority >= above.priority {
+            continue;
+        }
+        let apart = distance(above.offset, below.offset, period) as u32;
+        let past_edge = random.time(0, 1);
+        match random.rank(2) {
+            0 => table.tasks[lower].response = below.offset + (period - apart) + past_edge,
+            _ => table.tasks[upper].jitter = apart + past_edge,
+        }
+    }
+}

@@ -1,0 +1,25 @@
+//! An independent program that answers every call on table and patch images.
+//!
+//! It is written from the definition of the images, the relation, the bounds and the patches alone,
+//! and shares no code with the proved library that it is compared with.
+
+#![forbid(unsafe_code)]
+
+pub mod answer;
+pub mod blocks;
+pub mod bound_call;
+pub mod bounds;
+pub mod bytes;
+pub mod chain;
+pub mod digest;
+pub mod figure2;
+pub mod generate;
+pub mod map_call;
+pub mod patch_call;
+pub mod preempt;
+pub mod record_faults;
+pub mod records;
+pub mod report;
+pub mod stream;
+pub mod table;
+pub mod verdict;

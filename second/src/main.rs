@@ -1,0 +1,100 @@
+//! The commands of the second program.
+
+#![forbid(unsafe_code)]
+
+use std::io::{self, BufReader, BufWriter, Read, Write};
+use std::process::ExitCode;
+
+use second::answer::answer;
+use second::blocks::{image_of, Form, BLOCK_BYTES};
+use second::figure2::figure2;
+use second::generate::write_stream;
+use second::report::report;
+use second::stream::{Call, Case};
+
+const USAGE: &str = "usage: second bounds | generate SEED LETTERS COUNT | answer | figure2 \
+                     (LETTERS are some of T, P, M, B and A)";
+
+/// What the command line asks for.
+enum Command {
+    Bounds,
+    Generate {
+        seed: u64,
+        calls: Vec<Call>,
+        count: usize,
+    },
+    Answer,
+    Figure2,
+}
+
+fn main() -> ExitCode {
+    let arguments: Vec<String> = std::env::args().skip(1).collect();
+    let words: Vec<&str> = arguments.iter().map(String::as_str).collect();
+    let Some(command) = command_from(&words) else {
+        eprintln!("{USAGE}");
+        return ExitCode::from(2);
+    };
+    match run(command) {
+        Ok(()) => ExitCode::SUCCESS,
+        Err(error) => {
+            eprintln!("second: {error}");
+            ExitCode::FAILURE
+        }
+    }
+}
+
+/// The command that these words name, if they name one.
+fn command_from(words: &[&str]) -> Option<Command> {
+    match words {
+        ["bounds"] => Some(Command::Bounds),
+        ["answer"] => Some(Command::Answer),
+        ["figure2"] => Some(Command::Figure2),
+        ["generate", seed, letters, count] => Some(Command::Generate {
+            seed: seed.parse().ok()?,
+            calls: calls_from(letters)?,
+            count: count.parse().ok()?,
+        }),
+        _ => None,
+    }
+}
+
+/// The calls with these letters, if every letter has one and there is at least one.
+fn calls_from(letters: &str) -> Option<Vec<Call>> {
+    let calls: Option<Vec<Call>> = letters.bytes().map(Call::from_letter).collect();
+    calls.filter(|calls| !calls.is_empty())
+}
+
+fn run(command: Command) -> io::Result<()> {
+    let mut input = BufReader::new(io::stdin().lock());
+    let mut output = BufWriter::new(io::stdout().lock());
+    match command {
+        Command::Bounds => output.write_all(report(&read_image(&mut input)?).as_bytes())?,
+        Command::Generate { seed, calls, count } => write_stream(seed, &calls, count, &mut output)?,
+        Command::Answer => answer_all(&mut input, &mut output)?,
+        Command::Figure2 => output.write_all(&image_of(Form::Table, &figure2().records()))?,
+    }
+    output.flush()
+}
+
+/// The input up to one byte past the longest table; the rest is read and dropped.
+fn read_image(input: &mut impl Read) -> io::Result<Vec<u8>> {
+    let longest = Form::Table.most_blocks() * BLOCK_BYTES;
+    let mut image = Vec::new();
+    input.take(longest as u64 + 1).read_to_end(&mut image)?;
+    io::copy(input, &mut io::sink())?;
+    Ok(image)
+}
+
+/// Answers case after case until the stream ends; a broken stream ends the answers where it breaks.
+fn answer_all(input: &mut impl Read, output: &mut impl Write) -> io::Result<()> {
+    loop {
+        match Case::read(input) {
+            Ok(None) => return Ok(()),
+            Ok(Some(mut case)) => writeln!(output, "{}", answer(&mut case))?,
+            Err(error) => {
+                output.flush()?;
+                return Err(error);
+            }
+        }
+    }
+}

@@ -1,0 +1,46 @@
+//! What a table's records say together.
+
+use crate::records::{Pair, Record, Task, Transaction, PAIR, TASK, TRANSACTION};
+
+/// The transactions, tasks and pairs of a table, each in table order.
+#[derive(Clone, PartialEq, Eq, Debug, Default)]
+pub struct Table {
+    pub transactions: Vec<Transaction>,
+    pub tasks: Vec<Task>,
+    pub pairs: Vec<Pair>,
+}
+
+impl Table {
+    /// The table that these records make up.
+    pub fn read(records: &[Record]) -> Table {
+        let of_kind = |kind: u8| records.iter().filter(move |record| record.kind() == kind);
+        Table {
+            transactions: of_kind(TRANSACTION).map(Transaction::read).collect(),
+            tasks: of_kind(TASK).map(Task::read).collect(),
+            pairs: of_kind(PAIR).map(Pair::read).collect(),
+        }
+    }
+
+    /// The table's records in table order.
+    pub fn records(&self) -> Vec<Record> {
+        let transactions = self.transactions.iter().map(Transaction::record);
+        let tasks = self.tasks.iter().map(Task::record);
+        let pairs = self.pairs.iter().map(Pair::record);
+        let mut records: Vec<Record> = transactions.chain(tasks).chain(pairs).collect();
+        records.sort_by_key(Record::key);
+        records
+    }
+
+    /// The period of the transaction with this number, if it is listed.
+    pub fn period_of(&self, number: u16) -> Option<u32> {
+        self.transactions
+            .iter()
+            .find(|transaction| transaction.number == number)
+            .map(|transaction| transaction.period)
+    }
+
+    /// The place of the task with this id, if it is listed.
+    pub fn place_of(&self, id: u16) -> Option<usize> {
+        self.tasks.iter().position(|task| task.id == id)
+    }
+}

@@ -1,0 +1,103 @@
+//! What several tests share: small tables, their images, and calls with ample rooms.
+
+#![allow(dead_code)]
+
+use second::blocks::{image_of, Form};
+use second::bound_call::{bound_call, Bounds};
+use second::patch_call::{patch_call, Patched};
+use second::preempt::true_map;
+use second::records::{Pair, PairSort, Record, Task, Transaction, PUT_IN};
+use second::table::Table;
+use second::verdict::Refusal;
+
+/// The period of every transaction in the numbered cases.
+pub const PERIOD: u32 = 10_000;
+
+/// A task of transaction 1 with size 1 and no jitter.
+pub fn task(id: u16, priority: u16, offset: u32, response: u32) -> Task {
+    Task {
+        id,
+        transaction: 1,
+        priority,
+        offset,
+        jitter: 0,
+        response,
+        stack: 1,
+    }
+}
+
+/// A table of these tasks and pairs with transactions 1 and 2.
+pub fn table(tasks: &[Task], pairs: &[Pair]) -> Table {
+    let transaction = |number| Transaction {
+        number,
+        period: PERIOD,
+    };
+    Table {
+        transactions: vec![transaction(1), transaction(2)],
+        tasks: tasks.to_vec(),
+        pairs: pairs.to_vec(),
+    }
+}
+
+/// A one-way pair.
+pub fn one_way(first: u16, second: u16) -> Pair {
+    Pair {
+        sort: PairSort::OneWay,
+        first,
+        second,
+    }
+}
+
+/// A precedence pair.
+pub fn precedence(first: u16, second: u16) -> Pair {
+    Pair {
+        sort: PairSort::Precedence,
+        first,
+        second,
+    }
+}
+
+/// The image of a table.
+pub fn table_image(table: &Table) -> Vec<u8> {
+    image_of(Form::Table, &table.records())
+}
+
+/// The image of the patch that takes out and puts in these records.
+pub fn patch_image(taken_out: &[Record], put_in: &[Record]) -> Vec<u8> {
+    let put_in = put_in.iter().map(|record| record.with_way(PUT_IN));
+    let records: Vec<Record> = taken_out.iter().copied().chain(put_in).collect();
+    image_of(Form::Patch, &records)
+}
+
+/// The bounds of a table with this map, and the chain's ids.
+pub fn bounds_with(table: &Table, map: &[u64]) -> (Bounds, Vec<u16>) {
+    let mut ids = [0; 64];
+    let bounds = bound_call(&table_image(table), map, &mut ids).expect("a sound table");
+    (bounds, ids[..bounds.length].to_vec())
+}
+
+/// The bounds of a table with its own map, and the chain's ids.
+pub fn own_bounds(table: &Table) -> (Bounds, Vec<u16>) {
+    bounds_with(table, &true_map(table))
+}
+
+/// What an accepted patch leaves.
+pub struct Outcome {
+    pub patched: Patched,
+    pub image: Vec<u8>,
+    pub map: Vec<u64>,
+}
+
+/// The outcome of a patch call with ample rooms, or its refusal.
+pub fn apply(base: &[u8], patch: &[u8], map: &[u64]) -> Result<Outcome, Refusal> {
+    let mut room = vec![0; 11_776];
+    let mut new_map = vec![0; 64];
+    let patched =
+        patch_call(base, patch, map, &mut room, &mut new_map).map_err(|refused| refused.refusal)?;
+    room.truncate(patched.length);
+    Ok(Outcome {
+        patched,
+        image: room,
+        map: new_map,
+    })
+}

@@ -1,0 +1,105 @@
+//! What the commands print.
+
+mod common;
+
+use std::io::Write;
+use std::process::{Command, Output, Stdio};
+
+use common::table_image;
+use second::figure2::figure2;
+use second::table::Table;
+
+const FIGURE_2: &str = "tasks 6\nchain 8: 11 12 23\npath 10\ntransactions 9\nlevels 10\n";
+
+/// Runs the program with these arguments and this input.
+fn run(arguments: &[&str], input: &[u8]) -> Output {
+    let mut child = Command::new(env!("CARGO_BIN_EXE_second"))
+        .args(arguments)
+        .stdin(Stdio::piped())
+        .stdout(Stdio::piped())
+        .stderr(Stdio::piped())
+        .spawn()
+        .expect("the program starts");
+    let written = child.stdin.take().expect("an input").write_all(input);
+    assert!(written.is_ok() || !arguments.contains(&"bounds"));
+    child.wait_with_output().expect("the program ends")
+}
+
+fn printed(arguments: &[&str], input: &[u8]) -> String {
+    String::from_utf8(run(arguments, input).stdout).expect("text")
+}
+
+#[test]
+fn figure_2_is_printed_exactly() {
+    assert_eq!(printed(&["bounds"], &table_image(&figure2())), FIGURE_2);
+}
+
+#[test]
+fn figure_2_is_the_example_and_the_command() {
+    let example = include_bytes!("../../examples/figure2.tb");
+    assert_eq!(run(&["figure2"], &[]).stdout, example);
+    assert_eq!(printed(&["bounds"], example), FIGURE_2);
+}
+
+#[test]
+fn no_tasks_print_zeros() {
+    assert_eq!(
+        printed(&["bounds"], &table_image(&Table::default())),
+        "tasks 0\nchain 0:\npath 0\ntransactions 0\nlevels 0\n"
+    );
+}
+
+#[test]
+fn a_refusal_is_one_line() {
+    assert_eq!(printed(&["bounds"], &[]), "refused 1 at 0\n");
+    let mut image = table_image(&figure2());
+    image[510] ^= 1;
+    assert_eq!(printed(&["bounds"], &image), "refused 2 at 0\n");
+    image[8] = 9;
+    second::blocks::mend_checks(&mut image);
+    assert_eq!(printed(&["bounds"], &image), "refused 4 at 0\n");
+}
+
+#[test]
+fn input_past_the_longest_table_is_refusal_1() {
+    assert_eq!(printed(&["bounds"], &[0; 11_776]), "refused 3 at 0\n");
+    assert_eq!(printed(&["bounds"], &[0; 11_777]), "refused 1 at 0\n");
+    assert_eq!(
+        printed(&["bounds"], &vec![0; 2_000_000]),
+        "refused 1 at 0\n"
+    );
+}
+
+#[test]
+fn wrong_usage_is_told_on_standard_error() {
+    let wrong: [&[&str]; 6] = [
+        &[],
+        &["other"],
+        &["bounds", "more"],
+        &["generate", "1", "T"],
+        &["generate", "1", "TX", "3"],
+        &["generate", "1", "", "3"],
+    ];
+    for arguments in wrong {
+        let output = run(arguments, &[]);
+        assert_eq!(output.status.code(), Some(2));
+        assert!(output.stdout.is_empty());
+        assert!(String::from_utf8_lossy(&output.stderr).starts_with("usage: "));
+    }
+}
+
+#[test]
+fn answers_stop_where_the_stream_breaks() {
+    let stream = run(&["generate", "3", "TPMBA", "20"], &[]).stdout;
+    let whole = printed(&["answer"], &stream);
+    assert_eq!(whole.lines().count(), 20);
+    let cut = printed(&["answer"], &stream[..stream.len() - 1]);
+    assert_eq!(cut.lines().count(), 19);
+    assert!(whole.starts_with(&cut));
+    let mut other_letter = stream.clone();
+    other_letter[0] = b'X';
+    assert_eq!(printed(&["answer"], &other_letter), "");
+    let mut past_limit = stream;
+    past_limit[4..8].copy_from_slice(&24_577u32.to_le_bytes());
+    assert_eq!(printed(&["answer"], &past_limit), "");
+}
