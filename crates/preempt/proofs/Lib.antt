@@ -1,3 +1,6 @@
 pub mod Columns
 pub mod SingleBits
+pub mod Maps
 pub mod Accepted
+pub mod Pairs
+pub mod Reading

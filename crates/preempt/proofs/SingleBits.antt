@@ -10,7 +10,7 @@ use lib.Bits.{bitOr, or-shr, or-step}
 use lib.Pow.{pow-pos, pow-mono, pow-add, pow-lt, high, shl-shr}
 use lib.Dec.{ltb, eqb}
 use Rattle.rules.specs.Numbers.{sumTo}
-use Rattle.rules.proofs.Numbers.{either, sumTo-step}
+use Rattle.rules.proofs.Numbers.{either, sumTo-step, sumTo-zero, sumTo-ext}
 use Rattle.preempt.specs.Bits.{bitAt, bitsTo}
 
 -- a higher power of two is an even multiple of a lower one
@@ -119,3 +119,24 @@ bits-end set n (suc m) h none =
     (λ t.
     let past = ltb-false m n t in
     rw (none m past) (add-zero (bitsTo set m) ∙ bits-end set n m past none))
+
+-- where no bit is set, the number is 0
+pub bits-none : (set : ℕ → Bool) (n : ℕ) → ((j : ℕ) → set j ≡ false) → bitsTo set n ≡ 0
+bits-none set n none = bits-end set 0 n (omega arith) (λ j h. none j) ∙ sumTo-zero (λ j. cond (set j) (2 ^ j) 0)
+
+-- a number of n bits is made of its bits
+pub bits-made : (x n : ℕ) → x < 2 ^ n → x ≡ bitsTo (bitAt x) n
+unfolding sumTo
+bits-made x zero h = omega arith
+bits-made x (suc n) h =
+    either (ltb x (2 ^ n))
+    (λ t.
+    let small = ltb-true x (2 ^ n) t in
+    rw (bit-lacks x n small) (bits-made x n small ∙ sym (add-zero (bitsTo (bitAt x) n))))
+    (λ t.
+    let rest = x - 2 ^ n in
+    let parts : x ≡ rest + 2 ^ n = omega (arith, ltb-false x (2 ^ n) t) in
+    let small : rest < 2 ^ n = omega (arith, pow-suc 2 n) in
+    let top : bitAt x n ≡ true = ap (λ (y : ℕ). bitAt y n) parts ∙ bit-added rest n small in
+    let others : bitsTo (bitAt x) n ≡ bitsTo (bitAt rest) n = sumTo-ext (λ j. cond (bitAt x j) (2 ^ j) 0) (λ j. cond (bitAt rest j) (2 ^ j) 0) n (λ j l. ap (λ (b : Bool). cond b (2 ^ j) 0) (ap (λ (y : ℕ). bitAt y j) parts ∙ bit-below rest j n l)) in
+    rw (top, others) (parts ∙ ap (λ (y : ℕ). y + 2 ^ n) (bits-made rest n small)))

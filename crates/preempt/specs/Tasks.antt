@@ -1,12 +1,12 @@
 -- What is read of a table's tasks and pairs, and the decision from it.
-use Prim.Native.Nat.{ℕ, _<_}
+use Prim.Native.Nat.{ℕ}
 use mathlib.Core.List.{List}
 use mathlib.Core.Bool.{Bool}
 use mathlib.Core.Path.{_≡_}
-use lib.ListN.{length, getD}
+use lib.ListN.{getD}
 use Rattle.rules.specs.declared.Task.{Task}
 use Rattle.rules.specs.Records.{taskCount, taskAt, periodIn}
-use Rattle.rules.specs.Preempt.{mayPreempt, barred, cell}
+use Rattle.rules.specs.Preempt.{mayPreempt, barred, cell, mapFrom}
 use Rattle.preempt.specs.Bits.{column}
 use Rattle.preempt.specs.declared.tasks.Tasks.{Tasks}
 
@@ -22,10 +22,9 @@ pub record TasksRead (rs : List (List ℕ)) (t : Tasks) : Type 0 where
   pub sizes : t .sizes ≡ column (taskCount rs) (λ i. taskAt rs i .size)
   pub periods : t .periods ≡ column (taskCount rs) (λ i. periodIn rs (taskAt rs i .transaction))
 
--- bit j of row i says that a pair forbids that the task at place i is preempted by the one at place j
-pub record BarredRead (rs : List (List ℕ)) (rows : List ℕ) : Type 0 where
-  pub size : length rows ≡ 64
-  pub right : (i j : ℕ) → i < taskCount rs → j < taskCount rs → cell rows i j ≡ barred rs (taskAt rs i .id) (taskAt rs j .id)
+-- cell j of row i is set where a pair forbids that the task at place i is preempted by the one at place j
+unfoldable pub barredMap : List (List ℕ) → List ℕ
+barredMap rs = mapFrom (taskCount rs) (λ i j. barred rs (taskAt rs i .id) (taskAt rs j .id))
 
 -- the task at a place, as it was read
 abbrev pub taskIn : Tasks → ℕ → Task
