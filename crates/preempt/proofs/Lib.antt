@@ -4,3 +4,4 @@ pub mod Maps
 pub mod Accepted
 pub mod Pairs
 pub mod Reading
+pub mod Calls

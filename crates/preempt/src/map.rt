@@ -1,15 +1,22 @@
 // The map: 64 rows of 64 cells, a number for each row.
 ghost use mathlib.Core.Path.{_≡_};
+ghost use mathlib.Core.Bool.{true};
 ghost use Prim.Native.Nat.{_≤_, _<_};
 ghost use lib.ListN.{length};
-ghost use Rattle.rules.specs.Preempt.{rowFrom, mapFrom};
-ghost use Rattle.rules.specs.Calls.{over};
+ghost use Rattle.rules.specs.Blocks.{records};
+ghost use Rattle.rules.specs.Preempt.{rowFrom, mapFrom, mapOf};
+ghost use Rattle.rules.specs.Refusals.{accepted, tableVerdict};
+ghost use Rattle.rules.specs.Calls.{over, mapVerdict, mapAfter};
 ghost use Rattle.preempt.specs.Tasks.{taskIn, decidedBy};
+use crate::barred::read_barred;
 use crate::bits::is_set;
 use crate::bits::power;
 use crate::decide::may_preempt;
 use crate::tasks::Tasks;
+use crate::tasks::read_tasks;
 use rules::Task;
+use rules::Verdict;
+use table::table_verdict;
 
 // The task at a place.
 fn task_at(tasks: Tasks, i: usize) -> Task
@@ -74,5 +81,37 @@ fn write_rows(map: [u64; 64], rows: &mut [u64])
     while i < 64 {
         rows[i] = map[i];
         i += 1;
+    }
+}
+
+// The map of an accepted table.
+pub fn table_map(image: &[u8]) -> [u64; 64]
+    requires { ⌜ accepted (tableVerdict (now image)) ≡ true ⌝ }
+    ensures { λ r. ⌜ r ≡ mapOf (records (now (image .entry))) ⌝ }
+{
+    let tasks = read_tasks(image);
+    let barred = read_barred(image, tasks);
+    map_of(tasks, barred)
+}
+
+// Fills a lent map from a table image: the verdict, and the map of the table in the first 64 rows. A refusal writes nothing.
+pub fn fill_map(image: &[u8], rows: &mut [u64]) -> Verdict
+    ensures { λ r. ⌜ r ≡ mapVerdict (now (image .entry)) (now (rows .entry)) ⌝ }
+    ensures { λ r. ⌜ now (rows .exit) ≡ mapAfter (now (image .entry)) (now (rows .entry)) ⌝ }
+{
+    let verdict = table_verdict(image);
+    if verdict.number != 0 {
+        return verdict;
+    }
+    if rows.len() < 64 {
+        return Verdict {
+            number: 11,
+            place: 0,
+        };
+    }
+    write_rows(table_map(image), rows);
+    Verdict {
+        number: 0,
+        place: 0,
     }
 }
