@@ -1,5 +1,5 @@
 -- Laws of maps: their cells are the test they are made from, and one more cell may be set.
-use Prim.Native.Nat.{ℕ, _+_, _^_, _≤_, _<_}
+use Prim.Native.Nat.{ℕ, _^_, _≤_, _<_}
 use mathlib.Core.List.{List}
 use mathlib.Core.Bool.{Bool, true, false, cond, _&&_, _||_}
 use mathlib.Core.Path.{_≡_, refl, ap, sym, _∙_}
@@ -9,7 +9,6 @@ use lib.Bits.{bitOr, or-lt}
 use lib.Dec.{ltb, eqb}
 use lib.ListN.{length, getD, set, replicate, List·getD-eq-default}
 use lib.Pow.{pow-lt, pow-mono}
-use Rattle.rules.specs.Numbers.{sumTo}
 use Rattle.rules.specs.Preempt.{cell, rowFrom, mapFrom}
 use Rattle.rules.proofs.Numbers.{either, sumTo-ext}
 use Rattle.preempt.specs.Bits.{bitAt, bitsTo, column, marked, withPair}

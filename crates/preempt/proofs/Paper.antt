@@ -6,10 +6,9 @@ use mathlib.Core.Logic.{_↔_, _⊎_, inl, inr, ⊎-elim}
 use mathlib.Core.Path.{_≡_, refl, ap, sym, _∙_}
 use native.Mathlib.Nat.{add-mod-right, mod-eq-of-lt, mod-lt}
 use native.Mathlib.Omega.{arith}
-use borrow.Author.Tests.{lt-ltb, ltb-true, ltb-false, eq-eqb, ne-eqb, eqb-true, eqb-false, not-true}
+use borrow.Author.Tests.{lt-ltb, ltb-true, ltb-false, eq-eqb, eqb-true, eqb-false, not-true}
 use lib.Dec.{ltb, eqb}
 use lib.ListN.{length, getD}
-use Rattle.rules.specs.declared.Task.{Task}
 use Rattle.rules.specs.Numbers.{Bytes, some}
 use Rattle.rules.specs.Blocks.{records}
 use Rattle.rules.specs.Records.{numberOf, secondOf, sortOf, tasks, pairs, taskCount, taskAt, periodIn}
@@ -94,9 +93,10 @@ module _ (rs : List (List ℕ)) (shape : Shape rs) (named : Listed rs) (i j : �
   pub differences : (psi : ℕ) → Together rs i j → Psi rs i j psi → (psi < period rs i) × (taskAt rs i .offset ≤ taskAt rs i .response)
   differences psi same is =
       let below = named .offset-below i h in
-      let some : 0 < period rs i = omega arith in
-      (rw (psi-distance psi same is) (mod-lt (taskAt rs i .offset + (period rs i - taskAt rs j .offset)) some),
-      task-ranges (getD (tasks rs) i []) (shape .tasks-right i h) .response-from-offset)
+      let some : 0 < period rs i = omega arith in (
+        rw (psi-distance psi same is) (mod-lt (taskAt rs i .offset + (period rs i - taskAt rs j .offset)) some),
+        task-ranges (getD (tasks rs) i []) (shape .tasks-right i h) .response-from-offset,
+      )
 
   -- psi, where it matters
   module _ (psi : ℕ) (is : Together rs i j → Psi rs i j psi) where
@@ -133,19 +133,20 @@ module _ (rs : List (List ℕ)) (shape : Shape rs) (named : Listed rs) (i j : �
     unfolding decided mayPreempt
     map-is-equation-8 =
         let here = cell-of-map (taskCount rs) (decided rs) i j (shape .few-tasks) h l in
-        let free = barred rs (taskAt rs i .id) (taskAt rs j .id) in
-        (λ set.
-        let decision : (ltb (taskAt rs i .priority) (taskAt rs j .priority) && (not free && timing (period rs i) (taskAt rs i) (taskAt rs j))) ≡ true = sym here ∙ set in
-        let rest = both-second (ltb (taskAt rs i .priority) (taskAt rs j .priority)) _ decision in
-        record {
-          urgent = ltb-true (taskAt rs i .priority) (taskAt rs j .priority) (both-first _ _ decision);
-          allowed = none-barred rs (taskAt rs i .id) (taskAt rs j .id) (not-true free (both-first (not free) _ rest));
-          timely = timing-says (both-second (not free) _ rest);
-        },
-        λ p.
-        here
-        ∙ rw (lt-ltb (taskAt rs i .priority) (taskAt rs j .priority) (p .urgent), barred-none rs (taskAt rs i .id) (taskAt rs j .id) (p .allowed))
-        (timing-holds (p .timely)))
+        let free = barred rs (taskAt rs i .id) (taskAt rs j .id) in (
+          λ set.
+              let decision : (ltb (taskAt rs i .priority) (taskAt rs j .priority) && (not free && timing (period rs i) (taskAt rs i) (taskAt rs j))) ≡ true = sym here ∙ set in
+              let rest = both-second (ltb (taskAt rs i .priority) (taskAt rs j .priority)) _ decision in
+              record {
+                urgent = ltb-true (taskAt rs i .priority) (taskAt rs j .priority) (both-first _ _ decision);
+                allowed = none-barred rs (taskAt rs i .id) (taskAt rs j .id) (not-true free (both-first (not free) _ rest));
+                timely = timing-says (both-second (not free) _ rest);
+              },
+          λ p.
+              here
+              ∙ rw (lt-ltb (taskAt rs i .priority) (taskAt rs j .priority) (p .urgent), barred-none rs (taskAt rs i .id) (taskAt rs j .id) (p .allowed))
+              (timing-holds (p .timely)),
+        )
 
 -- and so the map of an accepted image
 pub accepted-map : (image : List ℕ) → Bytes image → accepted (tableVerdict image) ≡ true → (i j psi : ℕ)

@@ -1,23 +1,17 @@
-use Rattle.preempt.proofs.Accepted.{shape, task-record}
-use Rattle.preempt.proofs.Columns.{column-none, column-filled}
-use Rattle.preempt.specs.Bits.{column}
-use Rattle.rules.specs.declared.Task.{Task}
-use Rattle.rules.specs.Records.{transactions as Records·transactions, tasks, taskOf, taskCount, taskAt, periodIn}
-use Rattle.rules.specs.Blocks.{records, recordAt}
-use lib.ListN.{length, getD}
-use mathlib.Core.List.{List, []}
-use mathlib.Core.Path.{_≡_, refl, ap, sym, _∙_}
+-- The loop keeps each array filled up to the next place; the tasks stand behind the transactions.
 use Prim.Native.Nat.{ℕ, _+_, _-_, _≤_, _<_}
+use mathlib.Core.List.{List}
+use mathlib.Core.Path.{_≡_, ap, _∙_}
 use native.Mathlib.Omega.{arith}
 use borrow.Author.Needs.{needs}
+use Rattle.rules.specs.declared.Task.{Task}
+use Rattle.rules.specs.Records.{taskOf, taskCount, taskAt, periodIn}
+use Rattle.rules.specs.Blocks.{records, recordAt}
+use Rattle.preempt.specs.Bits.{column}
+use Rattle.preempt.proofs.Accepted.{shape, task-record}
+use Rattle.preempt.proofs.Columns.{column-none, column-filled}
 use Rattle.preempt.proofs.tasks.read_tasks.Statement.{statement}
 use Rattle.preempt.proofs.tasks.read_tasks.Tie as tie
-use Rattle.preempt.proofs.tasks.read_tasks.Reads as reads
-use Rattle.preempt.proofs.tasks.read_tasks.Lts as lts
-use Rattle.image.proofs.records.record_at.Reads as record-at-reads
-use Rattle.preempt.proofs.tasks.period_in.Reads as period-in-reads
-use Rattle.preempt.proofs.tasks.task_of.Reads as task-of-reads
-use Rattle.table.proofs.count.count_kind.Reads as count-kind-reads
 
 -- the fields of the task at a place, and the period of its transaction
 abbrev id-of : List ℕ → ℕ → ℕ
@@ -149,16 +143,19 @@ loop-again : tie.Need-loop-again Inv-loop μ-loop
 loop-again c =
     let image = c .before .before .before .before .before .before .before .before .args .image .now in
     let s = c .before .before .before .before .loop in
-    let here = read (c .before) in
-    (omega arith, omega arith, omega arith,
-    column-filled (s .i) (id-of image) (s .ids) _ (omega arith) (s .inv .3) (ap (λ (t : Task). t .id) here),
-    column-filled (s .i) (transaction-of image) (s .transactions) _ (omega arith) (s .inv .4) (ap (λ (t : Task). t .transaction) here),
-    column-filled (s .i) (priority-of image) (s .priorities) _ (omega arith) (s .inv .5) (ap (λ (t : Task). t .priority) here),
-    column-filled (s .i) (offset-of image) (s .offsets) _ (omega arith) (s .inv .6) (ap (λ (t : Task). t .offset) here),
-    column-filled (s .i) (jitter-of image) (s .jitters) _ (omega arith) (s .inv .7) (ap (λ (t : Task). t .jitter) here),
-    column-filled (s .i) (response-of image) (s .responses) _ (omega arith) (s .inv .8) (ap (λ (t : Task). t .response) here),
-    column-filled (s .i) (size-of image) (s .sizes) _ (omega arith) (s .inv .9) (ap (λ (t : Task). t .size) here),
-    column-filled (s .i) (period-of image) (s .periods) _ (omega arith) (s .inv .10) (c .period-in .ensures ∙ ap (λ (t : Task). periodIn (records image) (t .transaction)) here))
+    let here = read (c .before) in (
+      omega arith,
+      omega arith,
+      omega arith,
+      column-filled (s .i) (id-of image) (s .ids) _ (omega arith) (s .inv .3) (ap (λ (t : Task). t .id) here),
+      column-filled (s .i) (transaction-of image) (s .transactions) _ (omega arith) (s .inv .4) (ap (λ (t : Task). t .transaction) here),
+      column-filled (s .i) (priority-of image) (s .priorities) _ (omega arith) (s .inv .5) (ap (λ (t : Task). t .priority) here),
+      column-filled (s .i) (offset-of image) (s .offsets) _ (omega arith) (s .inv .6) (ap (λ (t : Task). t .offset) here),
+      column-filled (s .i) (jitter-of image) (s .jitters) _ (omega arith) (s .inv .7) (ap (λ (t : Task). t .jitter) here),
+      column-filled (s .i) (response-of image) (s .responses) _ (omega arith) (s .inv .8) (ap (λ (t : Task). t .response) here),
+      column-filled (s .i) (size-of image) (s .sizes) _ (omega arith) (s .inv .9) (ap (λ (t : Task). t .size) here),
+      column-filled (s .i) (period-of image) (s .periods) _ (omega arith) (s .inv .10) (c .period-in .ensures ∙ ap (λ (t : Task). periodIn (records image) (t .transaction)) here),
+    )
 
 returns : tie.Need-returns Inv-loop μ-loop
 returns c =
