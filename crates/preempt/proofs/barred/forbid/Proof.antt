@@ -1,5 +1,5 @@
 -- The two places are those of the ids that the record names; the second bit is set for a precedence alone.
-use Prim.Native.Nat.{ℕ}
+use Prim.Native.Nat.{ℕ, _<_}
 use mathlib.Core.Path.{_≡_, ap, _∙_}
 use mathlib.Core.List.{List}
 use native.Mathlib.Omega.{arith}
@@ -11,11 +11,16 @@ use Rattle.preempt.specs.Bits.{marked}
 use Rattle.preempt.proofs.barred.forbid.Statement.{statement}
 use Rattle.preempt.proofs.barred.forbid.Tie as tie
 
+-- the places that were found are those of the ids
 first-place : (c : tie.After-place-of2) → c .before .before .place-of .result ≡ placeAmong (c .before .before .before .before .before .before .args .ids .now) (c .before .before .before .before .before .before .args .known) (numberOf (c .before .before .before .before .before .before .args .fields .now))
 first-place c = c .before .before .place-of .ensures ∙ ap (placeAmong (c .before .before .before .before .before .before .args .ids .now) (c .before .before .before .before .before .before .args .known)) (c .before .before .before .two-bytes .ensures .0)
 
 second-place : (c : tie.After-place-of2) → c .place-of2 .result ≡ placeAmong (c .before .before .before .before .before .before .args .ids .now) (c .before .before .before .before .before .before .args .known) (secondOf (c .before .before .before .before .before .before .args .fields .now))
 second-place c = c .place-of2 .ensures ∙ ap (placeAmong (c .before .before .before .before .before .before .args .ids .now) (c .before .before .before .before .before .before .args .known)) (c .before .two-bytes2 .ensures .0)
+
+-- both are places of the 64
+places-below : (c : tie.After-place-of2) → (c .before .before .place-of .result < 64) × (c .place-of2 .result < 64)
+places-below c = (omega (arith, first-place c, c .before .before .before .before .before .before .pre .1 .0), omega (arith, second-place c, c .before .before .before .before .before .before .pre .1 .1))
 
 two-bytes-requires : tie.Need-two-bytes-requires
 two-bytes-requires c κs = search needs
@@ -30,13 +35,13 @@ place-of-requires-2 : tie.Need-place-of-requires-2
 place-of-requires-2 c κs = search needs
 
 mark-requires : tie.Need-mark-requires
-mark-requires c κs = (omega (arith, first-place c, c .before .before .before .before .before .before .pre .1 .0), omega (arith, second-place c, c .before .before .before .before .before .before .pre .1 .1))
+mark-requires c κs = omega (arith, places-below c)
 
 byte-at-requires : tie.Need-byte-at-requires
 byte-at-requires c κs = search needs
 
 mark-requires-2 : tie.Need-mark-requires-2
-mark-requires-2 c κs = (omega (arith, second-place (c .before .before .before), c .before .before .before .before .before .before .before .before .before .pre .1 .1), omega (arith, first-place (c .before .before .before), c .before .before .before .before .before .before .before .before .before .pre .1 .0))
+mark-requires-2 c κs = omega (arith, places-below (c .before .before .before))
 
 returns : tie.Need-returns
 returns c =
