@@ -1,7 +1,7 @@
 -- What the tasks that were read say of the tasks of the table.
 use Prim.Native.Nat.{ℕ, _<_}
 use mathlib.Core.List.{List, []}
-use mathlib.Core.Path.{_≡_, ap, _∙_}
+use mathlib.Core.Path.{_≡_, ap, sym, _∙_}
 use native.Mathlib.Omega.{arith}
 use lib.ListN.{length, getD}
 use Rattle.rules.specs.Records.{numberOf, tasks, taskCount, taskAt, periodIn}
@@ -15,8 +15,34 @@ use Rattle.preempt.proofs.Columns.{column-length, column-at}
 use Rattle.preempt.proofs.Maps.{cell-of-map, map-ext}
 
 -- a field of the task at a place that holds one
-field-at : (rs : List (List ℕ)) (l : List ℕ) (f : ℕ → ℕ) → Shape rs → l ≡ column (taskCount rs) f → (i : ℕ) → i < taskCount rs → getD l i 0 ≡ f i
+pub field-at : (rs : List (List ℕ)) (l : List ℕ) (f : ℕ → ℕ) → Shape rs → l ≡ column (taskCount rs) f → (i : ℕ) → i < taskCount rs → getD l i 0 ≡ f i
 field-at rs l f shape e i h = ap (λ (c : List ℕ). getD c i 0) e ∙ column-at (taskCount rs) f i (shape .few-tasks) h
+
+-- the tasks of a table
+abbrev pub tasksOf : List (List ℕ) → Tasks
+tasksOf rs =
+    record {
+      count = taskCount rs;
+      ids = column (taskCount rs) (λ i. taskAt rs i .id);
+      transactions = column (taskCount rs) (λ i. taskAt rs i .transaction);
+      priorities = column (taskCount rs) (λ i. taskAt rs i .priority);
+      offsets = column (taskCount rs) (λ i. taskAt rs i .offset);
+      jitters = column (taskCount rs) (λ i. taskAt rs i .jitter);
+      responses = column (taskCount rs) (λ i. taskAt rs i .response);
+      sizes = column (taskCount rs) (λ i. taskAt rs i .size);
+      periods = column (taskCount rs) (λ i. periodIn rs (taskAt rs i .transaction));
+    }
+
+-- are all that can be read of it
+pub tasks-read : (rs : List (List ℕ)) (t : Tasks) → TasksRead rs t → t ≡ tasksOf rs
+tasks-read rs t read =
+    let fields : Tasks = record { count = t .count; ids = t .ids; transactions = t .transactions; priorities = t .priorities; offsets = t .offsets; jitters = t .jitters; responses = t .responses; sizes = t .sizes; periods = t .periods } in
+    let same : fields ≡ tasksOf rs = rw (read .count, read .ids, read .transactions, read .priorities, read .offsets, read .jitters, read .responses, read .sizes, read .periods) in
+    same
+
+-- so two readings of one table are equal
+pub tasks-determined : (rs : List (List ℕ)) (t u : Tasks) → TasksRead rs t → TasksRead rs u → t ≡ u
+tasks-determined rs t u p q = tasks-read rs t p ∙ sym (tasks-read rs u q)
 
 -- the ids are a directory of the tasks
 pub ids-directory : (rs : List (List ℕ)) (t : Tasks) → Shape rs → TasksRead rs t → Directory (tasks rs) (t .ids) (t .count)
@@ -35,7 +61,7 @@ ids-directory rs t shape read =
 -- what was read of a table, and of its pairs
 module _ (rs : List (List ℕ)) (t : Tasks) (rows : List ℕ) (shape : Shape rs) (read : TasksRead rs t) (pairs-read : rows ≡ barredMap rs) where
   -- the task at a place is the table's
-  task-read : (i : ℕ) → i < taskCount rs → taskIn t i ≡ taskAt rs i
+  pub task-read : (i : ℕ) → i < taskCount rs → taskIn t i ≡ taskAt rs i
   task-read i h =
       rw (
         field-at rs (t .ids) (λ i. taskAt rs i .id) shape (read .ids) i h,

@@ -49,7 +49,7 @@ pub fn task_of(fields: &[u8]) -> Task
 }
 
 // The period of the transaction with this number, of the count that a table has, or 0 where it is not listed.
-pub fn period_in(image: &[u8], count: usize, number: u32) -> u32
+fn period_in(image: &[u8], count: usize, number: u32) -> u32
     requires { ⌜ accepted (tableVerdict (now image)) ≡ true ⌝ }
     requires { ⌜ count ≡ length (transactions (records (now image))) ⌝ }
     ensures { λ r. ⌜ r ≡ periodIn (records (now (image .entry))) number ⌝ }
