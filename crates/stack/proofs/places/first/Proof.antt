@@ -1,0 +1,23 @@
+use lib.Pow.{pow-pos}
+use Rattle.stack.proofs.Sets.{power, below-has}
+use native.Mathlib.Omega.{arith}
+use borrow.Author.Needs.{needs}
+use Rattle.stack.proofs.places.first.Statement.{statement}
+use Rattle.stack.proofs.places.first.Tie as tie
+use Rattle.stack.proofs.places.first.Reads as reads
+use Rattle.stack.proofs.places.first.Lts as lts
+
+shl-result : tie.Need-shl-result
+shl-result c = search needs
+
+sub-result : tie.Need-sub-result
+sub-result c = rw (power (c .before .args .count) (omega arith)) (pow-pos (c .before .args .count))
+
+returns : tie.Need-returns
+returns c = rw (c .if1 .taken) (below-has 64)
+
+returns-2 : tie.Need-returns-2
+returns-2 c = rw (power (c .before .args .count) (omega arith)) (below-has (c .before .args .count))
+
+pub first-spec : {M : Type 1} → statement M
+first-spec = tie.close (tie.spec shl-result sub-result returns returns-2)

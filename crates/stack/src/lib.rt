@@ -1,0 +1,2 @@
+// Path sums and the heaviest preemption chain, over plain slices and numbers.
+pub mod places;
