@@ -4,12 +4,13 @@ use mathlib.Core.Bool.{Bool, true, false, _&&_, not}
 use mathlib.Core.Path.{_≡_, refl, sym, ap, _∙_}
 use native.Mathlib.Nat.{pow-suc, suc-add, zero-add}
 use native.Mathlib.Omega.{arith}
-use borrow.Author.Tests.{ltb-true, ltb-false, lt-ltb, le-ltb, eqb-true, eqb-false, eq-eqb, ne-eqb}
+use borrow.Author.Tests.{ltb-true, ltb-false, lt-ltb, le-ltb, eqb-true, eqb-false, eq-eqb, ne-eqb, not-true}
 use lib.Dec.{eqb, ltb}
 use lib.Pow.{shr-shr, shl-exact, pow-pos}
 use lib.Bits.{bitAnd, and-shr, and-step}
 use lib.Count.{trailingZeros}
 use Rattle.rules.proofs.Numbers.{either, never}
+use Rattle.rules.proofs.Tests.{both-first, both-second}
 use Rattle.stack.specs.Places.{has, Lowest, Without, Shared, Below}
 
 -- a place above 0 is the one below it in the set moved down
@@ -129,3 +130,20 @@ below-has (suc count) (suc j) =
     (either (ltb j count)
     (λ t. below-has count j ∙ t ∙ sym (lt-ltb (suc j) (suc count) (omega (arith, ltb-true j count t))))
     (λ t. below-has count j ∙ t ∙ sym (le-ltb (suc j) (suc count) (omega (arith, ltb-false j count t)))))
+
+-- a place of the smaller set is one of the set, and another one than the place taken out
+pub without-inside : (a i b : ℕ) → Without a i b → (j : ℕ) → has b j ≡ true → (has a j ≡ true) × (j ≡ i → ⊥)
+without-inside a i b taken j h =
+    let h′ : (has a j && not (eqb j i)) ≡ true = sym (taken .rest j) ∙ h in (
+      both-first (has a j) (not (eqb j i)) h′,
+      λ e. never (eqb j i) (eq-eqb j i e) (not-true (eqb j i) (both-second (has a j) (not (eqb j i)) h′)),
+    )
+
+-- a place outside the smaller set is outside the set, or the place taken out
+pub without-outside {ℓ} : {A : Type ℓ} (a i b : ℕ) → Without a i b → (j : ℕ) → has b j ≡ false → (has a j ≡ false → A) → (j ≡ i → A) → A
+without-outside a i b taken j h outside out =
+    either (has a j)
+    (λ t. either (eqb j i)
+    (λ e. out (eqb-true j i e))
+    (λ e. never (has b j) (taken .rest j ∙ rw (t, e)) h))
+    outside

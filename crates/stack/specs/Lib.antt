@@ -1,1 +1,3 @@
 pub mod Places
+pub mod Setting
+pub mod Paths

@@ -26,3 +26,7 @@ Shared a b both = (j : ℕ) → has both j ≡ (has a j && has b j)
 -- the set holds the places below count
 abbrev pub Below : ℕ → ℕ → Type 0
 Below count set = (j : ℕ) → has set j ≡ ltb j count
+
+-- every place of the set is below count
+abbrev pub Inside : ℕ → ℕ → Type 0
+Inside count set = (j : ℕ) → has set j ≡ true → j < count

@@ -1,2 +1,3 @@
 // Path sums and the heaviest preemption chain, over plain slices and numbers.
+pub mod path;
 pub mod places;
