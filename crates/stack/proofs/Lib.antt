@@ -1,2 +1,5 @@
 pub mod Sets
 pub mod Sums
+pub mod Meeting
+pub mod Opening
+pub mod Extending

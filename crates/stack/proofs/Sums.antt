@@ -201,6 +201,6 @@ module _ (n : ℕ) (rows sizes order : List ℕ) (cover : ℕ) where
               (λ e. rw (e, same) (settle place (so-far .inside i there) meet largest known));
           light = λ j.
               either (eqb j i)
-              (λ t. rw (eqb-true j i t, same) (omega (arith, ready .light i, largest-light (65535 * k) largest (so-far .light))))
+              (λ t. rw (eqb-true j i t, same) (omega (arith, ready .light i place, largest-light (65535 * k) largest (so-far .light))))
               (λ t. rw (getD-set-other sums i j sum 0 (eqb-false j i t)) (omega (arith, so-far .light j)));
         }

@@ -1,3 +1,4 @@
 pub mod Places
 pub mod Setting
 pub mod Paths
+pub mod Search

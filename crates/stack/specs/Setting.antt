@@ -13,7 +13,7 @@ pub record Ready (n : ℕ) (rows sizes order : List ℕ) : Type 0 where
   pub size-count : length sizes ≡ 64
   pub order-count : length order ≡ 64
   pub inside : (i j : ℕ) → T (cell rows i j) → (i < n) × (j < n)
-  pub light : (i : ℕ) → getD sizes i 0 ≤ 65535
+  pub light : (i : ℕ) → i < n → getD sizes i 0 ≤ 65535
   pub places : (k : ℕ) → k < n → getD order k 0 < n
   pub occurs : (i : ℕ) → i < n → (k : ℕ) × (k < n) × (getD order k 0 ≡ i)
   pub earlier : (k m : ℕ) → k < n → m < n → T (cell rows (getD order k 0) (getD order m 0)) → m < k

@@ -29,7 +29,7 @@ left c =
     (start .pre .0) so-far (c .loop-test .taken) (omega (arith, so-far .within, start .fits .cover .fits))
 
 -- the place that stands next in the order is one of the places
-place : (c : tie.After-wide Inv-loop μ-loop) → c .wide .result < 64
+place : (c : tie.After-wide Inv-loop μ-loop) → (c .wide .result < c .before .before .before .before .before .before .before .args .count) × (c .wide .result < 64)
 place c =
     let start = c .before .before .before .before .before .before .before in
     omega (arith, c .wide .ensures, start .pre .0 .few, start .pre .0 .places (c .before .before .before .loop .k) (left (c .before .before)))
@@ -50,7 +50,7 @@ add-k : tie.Need-add-k Inv-loop μ-loop
 add-k c = search needs
 
 has-requires : tie.Need-has-requires Inv-loop μ-loop
-has-requires c κs = place c
+has-requires c κs = place c .1
 
 mul-shared : tie.Need-mul-shared Inv-loop μ-loop
 mul-shared c = omega (arith, place (c .before .before))
@@ -77,7 +77,7 @@ add-sums c =
     omega (
       arith,
       ready .few,
-      ready .light (c .before .before .before .before .before .before .before .wide .result),
+      ready .light (c .before .before .before .before .before .before .before .wide .result) (place (c .before .before .before .before .before .before .before) .0),
       so-far .count,
       largest-light (65535 * c .before .before .before .before .before .before .before .before .before .before .loop .k) (c .largest-at .ensures) (so-far .light),
     )
@@ -86,10 +86,10 @@ mul-sums-2 : tie.Need-mul-sums-2 Inv-loop μ-loop
 mul-sums-2 c = omega (arith, place (c .before .before .before .before .before .before .before))
 
 array-write-sums : tie.Need-array-write-sums Inv-loop μ-loop
-array-write-sums c = place (c .before .before .before .before .before .before .before)
+array-write-sums c = place (c .before .before .before .before .before .before .before) .1
 
 without-requires : tie.Need-without-requires Inv-loop μ-loop
-without-requires c κs = (place (c .before .before .before .before .before .before .before), sym (c .before .before .before .before .before .before .has .ensures) ∙ c .before .before .before .before .before .if1 .taken)
+without-requires c κs = (place (c .before .before .before .before .before .before .before) .1, sym (c .before .before .before .before .before .before .has .ensures) ∙ c .before .before .before .before .before .if1 .taken)
 
 loop-less : tie.Need-loop-less Inv-loop μ-loop
 loop-less c = omega (arith, left (c .before .before .before .before .before .before .before .before .before .before))
