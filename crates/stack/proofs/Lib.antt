@@ -3,3 +3,4 @@ pub mod Sums
 pub mod Meeting
 pub mod Opening
 pub mod Extending
+pub mod Inserting

@@ -24,9 +24,3 @@ pub record Rising (n : ℕ) (rows priorities : List ℕ) : Type 0 where
   pub rises : (i j : ℕ) → T (cell rows i j) → getD priorities i 0 < getD priorities j 0
   pub least : (i : ℕ) → i < n → 1 ≤ getD priorities i 0
   pub most : (i : ℕ) → i < n → getD priorities i 0 ≤ 255
-
--- an order of the places below n, by falling priority
-pub record Falling (n : ℕ) (priorities order : List ℕ) : Type 0 where
-  pub places : (k : ℕ) → k < n → getD order k 0 < n
-  pub occurs : (i : ℕ) → i < n → (k : ℕ) × (k < n) × (getD order k 0 ≡ i)
-  pub falls : (k m : ℕ) → k ≤ m → m < n → getD priorities (getD order m 0) 0 ≤ getD priorities (getD order k 0) 0

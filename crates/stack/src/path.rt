@@ -6,14 +6,8 @@ ghost use Rattle.stack.specs.Paths.{LargestAt, PathBound, NoneAbove};
 use crate::places::has;
 use crate::places::lowest;
 use crate::places::shared;
+use crate::places::wide;
 use crate::places::without;
-
-// A place, as a number to index with.
-pub fn wide(place: u8) -> usize
-    ensures { λ r. ⌜ r ≡ place ⌝ }
-{
-    place as usize
-}
 
 // The largest of the sums at the places of a set, or 0.
 fn largest_at(sums: &[u32; 64], set: u64) -> u32

@@ -4,6 +4,13 @@ ghost use mathlib.Core.Bool.{true};
 ghost use Prim.Native.Nat.{_≤_, _<_};
 ghost use Rattle.stack.specs.Places.{has as Places·has, Lowest, Without, Shared, Below};
 
+// A place, as a number to index with.
+pub fn wide(place: u8) -> usize
+    ensures { λ r. ⌜ r ≡ place ⌝ }
+{
+    place as usize
+}
+
 // Whether a place is in the set.
 pub fn has(set: u64, place: usize) -> bool
     requires { ⌜ place < 64 ⌝ }

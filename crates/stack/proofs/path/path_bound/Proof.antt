@@ -9,7 +9,7 @@ use Rattle.stack.proofs.path.path_bound.Tie as tie
 use Rattle.stack.proofs.path.path_bound.Reads as reads
 use Rattle.stack.proofs.path.path_bound.Lts as lts
 use Rattle.stack.proofs.path.largest_at.Reads as largest-at-reads
-use Rattle.stack.proofs.path.wide.Reads as wide-reads
+use Rattle.stack.proofs.places.wide.Reads as wide-reads
 use Rattle.stack.proofs.places.has.Reads as has-reads
 use Rattle.stack.proofs.places.shared.Reads as shared-reads
 use Rattle.stack.proofs.places.without.Reads as without-reads
