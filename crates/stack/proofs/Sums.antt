@@ -2,9 +2,9 @@
 use Prim.Native.Nat.{ℕ, zero, suc, _+_, _*_, _^_, _≤_, _<_}
 use lib.Count.{trailingZeros}
 use mathlib.Core.List.{List, [], _∷_}
-use mathlib.Core.Bool.{Bool, true, false, _&&_}
+use mathlib.Core.Bool.{true, false}
 use mathlib.Core.Path.{_≡_, refl, sym, _∙_}
-use mathlib.Core.Logic.{_⊎_, inl, inr, ⊎-elim}
+use mathlib.Core.Logic.{_⊎_, inl, ⊎-elim}
 use native.Mathlib.Omega.{arith}
 use borrow.Author.Tests.{eqb-true, eqb-false}
 use lib.ListN.{length, getD, replicate, set as set-at, length-set}
@@ -15,8 +15,7 @@ use Rattle.rules.specs.Chains.{weight, Path, All, Largest}
 use Rattle.rules.proofs.Numbers.{either, never}
 use Rattle.rules.proofs.Tests.{both-first, both-second}
 use Rattle.rules.proofs.FourBounds.Order.{T-true, true-T}
-use Rattle.rules.proofs.Enumerate.Paths.{path-first}
-use Rattle.stack.specs.Places.{has, Lowest, Without, Shared, Inside}
+use Rattle.stack.specs.Places.{has, Without, Shared, Inside}
 use Rattle.stack.specs.Setting.{Ready}
 use Rattle.stack.specs.Paths.{sizeIn, LargestAt, PathBound}
 use Rattle.stack.proofs.Sets.{without-inside, without-outside, none, lowest-has}
@@ -178,12 +177,12 @@ module _ (n : ℕ) (rows sizes order : List ℕ) (cover : ℕ) where
         let sum : ℕ = sizeIn sizes i + r in
         let same = getD-set-same sums i sum 0 (omega (arith, so-far .room, ready .few)) in
         let known : (j : ℕ) → has cover j ≡ true → T (cell rows i j) → Settled j (getD sums j 0) =
-            λ j h may.
-            either (has rest j)
-            (λ t.
-            let (m, above, last, e) = so-far .later j t in
-            absurd (omega (arith, ready .earlier k m below last (rw e may))))
-            (λ t. so-far .settled j h t)
+        λ j h may.
+        either (has rest j)
+        (λ t.
+        let (m, above, last, e) = so-far .later j t in
+        absurd (omega (arith, ready .earlier k m below last (rw e may))))
+        (λ t. so-far .settled j h t)
         in
         record {
           count = omega arith;

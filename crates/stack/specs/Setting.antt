@@ -12,7 +12,6 @@ pub record Ready (n : ℕ) (rows sizes order : List ℕ) : Type 0 where
   pub row-count : length rows ≡ 64
   pub size-count : length sizes ≡ 64
   pub order-count : length order ≡ 64
-  pub inside : (i j : ℕ) → T (cell rows i j) → (i < n) × (j < n)
   pub light : (i : ℕ) → i < n → getD sizes i 0 ≤ 65535
   pub places : (k : ℕ) → k < n → getD order k 0 < n
   pub occurs : (i : ℕ) → i < n → (k : ℕ) × (k < n) × (getD order k 0 ≡ i)
@@ -21,6 +20,6 @@ pub record Ready (n : ℕ) (rows sizes order : List ℕ) : Type 0 where
 -- a task may only be preempted by one of higher priority, and priorities go from 1 to 255
 pub record Rising (n : ℕ) (rows priorities : List ℕ) : Type 0 where
   pub priority-count : length priorities ≡ 64
-  pub rises : (i j : ℕ) → T (cell rows i j) → getD priorities i 0 < getD priorities j 0
+  pub rises : (i j : ℕ) → i < n → j < n → T (cell rows i j) → getD priorities i 0 < getD priorities j 0
   pub least : (i : ℕ) → i < n → 1 ≤ getD priorities i 0
   pub most : (i : ℕ) → i < n → getD priorities i 0 ≤ 255

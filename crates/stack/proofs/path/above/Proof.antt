@@ -1,12 +1,9 @@
+-- Every chain is a path.
 use Rattle.rules.specs.Preempt.{cell}
 use Rattle.rules.proofs.FourBounds.Order.{chain-path}
-use native.Mathlib.Omega.{arith}
 use borrow.Author.Needs.{needs}
 use Rattle.stack.proofs.path.above.Statement.{statement}
 use Rattle.stack.proofs.path.above.Tie as tie
-use Rattle.stack.proofs.path.above.Reads as reads
-use Rattle.stack.proofs.path.above.Lts as lts
-use Rattle.stack.proofs.path.path_bound.Reads as path-bound-reads
 
 path-bound-requires : tie.Need-path-bound-requires
 path-bound-requires c κs = search needs

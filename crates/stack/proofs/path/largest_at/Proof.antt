@@ -1,3 +1,4 @@
+-- The loop's invariant: the largest is that of the sums at the places already taken out of the rest.
 use Rattle.stack.proofs.Sums.{Sought, sought-none, sought-more, sought-all}
 use mathlib.Core.Path.{refl}
 use mathlib.Core.Logic.{inr}
@@ -5,10 +6,6 @@ use native.Mathlib.Omega.{arith}
 use borrow.Author.Needs.{needs}
 use Rattle.stack.proofs.path.largest_at.Statement.{statement}
 use Rattle.stack.proofs.path.largest_at.Tie as tie
-use Rattle.stack.proofs.path.largest_at.Reads as reads
-use Rattle.stack.proofs.path.largest_at.Lts as lts
-use Rattle.stack.proofs.places.lowest.Reads as lowest-reads
-use Rattle.stack.proofs.places.without.Reads as without-reads
 
 abbrev Inv-loop : tie.InvT-loop
 Inv-loop sums set largest₀ rest₀ largest rest = Sought sums set largest rest

@@ -1,3 +1,4 @@
+-- The loop's invariant: the sums of the cover's places outside the rest are settled, and the rest stand later in the order.
 use Prim.Native.Nat.{_-_, _*_, _<_}
 use mathlib.Core.Path.{_≡_, refl, sym, _∙_}
 use Rattle.stack.proofs.Sets.{none}
@@ -6,13 +7,6 @@ use native.Mathlib.Omega.{arith}
 use borrow.Author.Needs.{needs}
 use Rattle.stack.proofs.path.path_bound.Statement.{statement}
 use Rattle.stack.proofs.path.path_bound.Tie as tie
-use Rattle.stack.proofs.path.path_bound.Reads as reads
-use Rattle.stack.proofs.path.path_bound.Lts as lts
-use Rattle.stack.proofs.path.largest_at.Reads as largest-at-reads
-use Rattle.stack.proofs.places.wide.Reads as wide-reads
-use Rattle.stack.proofs.places.has.Reads as has-reads
-use Rattle.stack.proofs.places.shared.Reads as shared-reads
-use Rattle.stack.proofs.places.without.Reads as without-reads
 
 abbrev Inv-loop : tie.InvT-loop
 Inv-loop rows sizes order count cover sums₀ rest₀ k₀ sums rest k = Underway count rows sizes order cover sums rest k

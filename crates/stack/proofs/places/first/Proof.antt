@@ -1,11 +1,10 @@
+-- A power of 2 less 1 has exactly the bits below it.
 use lib.Pow.{pow-pos}
 use Rattle.stack.proofs.Sets.{power, below-has}
 use native.Mathlib.Omega.{arith}
 use borrow.Author.Needs.{needs}
 use Rattle.stack.proofs.places.first.Statement.{statement}
 use Rattle.stack.proofs.places.first.Tie as tie
-use Rattle.stack.proofs.places.first.Reads as reads
-use Rattle.stack.proofs.places.first.Lts as lts
 
 shl-result : tie.Need-shl-result
 shl-result c = search needs

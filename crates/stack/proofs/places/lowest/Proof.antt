@@ -1,11 +1,9 @@
+-- The zeros below the lowest bit count up to its place.
 use lib.Count.{trailing-le}
 use Rattle.stack.proofs.Sets.{lowest-has}
 use native.Mathlib.Omega.{arith}
-use borrow.Author.Needs.{needs}
 use Rattle.stack.proofs.places.lowest.Statement.{statement}
 use Rattle.stack.proofs.places.lowest.Tie as tie
-use Rattle.stack.proofs.places.lowest.Reads as reads
-use Rattle.stack.proofs.places.lowest.Lts as lts
 
 cast-result : tie.Need-cast-result
 cast-result c = omega (arith, trailing-le 64 (c .args .set))

@@ -1,12 +1,10 @@
+-- A set place is one power of 2 in the number, and taking that away changes no other bit.
 use Prim.Native.Nat.{_/_, _%_, _^_}
 use borrow.Author.Tests.{eqb-true}
 use Rattle.stack.proofs.Sets.{power, enough, without-has}
-use native.Mathlib.Omega.{arith}
 use borrow.Author.Needs.{needs}
 use Rattle.stack.proofs.places.without.Statement.{statement}
 use Rattle.stack.proofs.places.without.Tie as tie
-use Rattle.stack.proofs.places.without.Reads as reads
-use Rattle.stack.proofs.places.without.Lts as lts
 
 shl-result : tie.Need-shl-result
 shl-result c = search needs
