@@ -1,8 +1,7 @@
 -- The loop's invariant: the sums of the cover's places outside the rest are settled, and the rest stand later in the order.
 use Prim.Native.Nat.{_-_, _*_, _<_}
-use mathlib.Core.Path.{_≡_, refl, sym, _∙_}
-use Rattle.stack.proofs.Sets.{none}
-use Rattle.stack.proofs.Sums.{Underway, underway-none, underway-left, underway-skip, underway-take, settled-all, largest-light, zeros}
+use mathlib.Core.Path.{refl, sym, _∙_}
+use Rattle.stack.proofs.Sums.{Underway, underway-none, underway-left, underway-skip, underway-take, underway-all, largest-light, zeros}
 use native.Mathlib.Omega.{arith}
 use borrow.Author.Needs.{needs}
 use Rattle.stack.proofs.path.path_bound.Statement.{statement}
@@ -19,8 +18,7 @@ left : (c : tie.In-loop Inv-loop μ-loop) → c .before .loop .k < c .before .be
 left c =
     let start = c .before .before .before .before .before in
     let so-far = c .before .loop .inv in
-    underway-left (start .args .count) (start .args .rows .now) (start .args .sizes .now) (start .args .order .now) (start .args .cover)
-    (start .pre .0) so-far (c .loop-test .taken) (omega (arith, so-far .within, start .fits .cover .fits))
+    underway-left (start .pre .0) so-far (c .loop-test .taken) (omega (arith, so-far .within, start .fits .cover .fits))
 
 -- the place that stands next in the order is one of the places
 place : (c : tie.After-wide Inv-loop μ-loop) → (c .wide .result < c .before .before .before .before .before .before .before .args .count) × (c .wide .result < 64)
@@ -31,8 +29,7 @@ place c =
 loop-holds : tie.Need-loop-holds Inv-loop μ-loop
 loop-holds c =
     let start = c .before .before .before in
-    underway-none (start .args .count) (start .args .rows .now) (start .args .sizes .now) (start .args .order .now) (start .args .cover)
-    (start .pre .0) refl (zeros 64) (start .pre .1)
+    underway-none (start .pre .0) refl (zeros 64) (start .pre .1)
 
 shared-slice-read-wide : tie.Need-shared-slice-read-wide Inv-loop μ-loop
 shared-slice-read-wide c = omega (arith, left (c .before), c .before .before .before .before .before .before .pre .0 .few, c .before .before .before .before .before .before .pre .0 .order-count)
@@ -92,8 +89,7 @@ loop-again : tie.Need-loop-again Inv-loop μ-loop
 loop-again c =
     let start = c .before .before .before .before .before .before .before .before .before .before .before .before .before .before .before in
     rw (c .before .before .before .before .before .before .before .before .wide .ensures)
-    (underway-take (start .args .count) (start .args .rows .now) (start .args .sizes .now) (start .args .order .now) (start .args .cover)
-    (start .pre .0) (c .before .before .before .before .before .before .before .before .before .before .before .loop .inv) (left (c .before .before .before .before .before .before .before .before .before .before))
+    (underway-take (start .pre .0) (c .before .before .before .before .before .before .before .before .before .before .before .loop .inv) (left (c .before .before .before .before .before .before .before .before .before .before))
     (rw (c .before .before .before .before .before .before .before .before .wide .ensures) at (sym (c .before .before .before .before .before .before .before .has .ensures) ∙ c .before .before .before .before .before .before .if1 .taken))
     (rw (c .before .before .before .before .before .before .before .before .wide .ensures) at (c .before .before .before .before .shared .ensures))
     (c .before .largest-at .ensures)
@@ -105,8 +101,7 @@ loop-less-2 c = omega (arith, left (c .before .before .before .before))
 loop-again-2 : tie.Need-loop-again-2 Inv-loop μ-loop
 loop-again-2 c =
     let start = c .before .before .before .before .before .before .before .before .before in
-    underway-skip (start .args .count) (start .args .rows .now) (start .args .sizes .now) (start .args .order .now) (start .args .cover)
-    (start .pre .0) (c .before .before .before .before .before .loop .inv) (left (c .before .before .before .before))
+    underway-skip (start .pre .0) (c .before .before .before .before .before .loop .inv) (left (c .before .before .before .before))
     (rw (c .before .before .wide .ensures) at (sym (c .before .has .ensures) ∙ c .if1 .left))
 
 largest-at-requires-2 : tie.Need-largest-at-requires-2 Inv-loop μ-loop
@@ -114,10 +109,7 @@ largest-at-requires-2 c κs = search needs
 
 returns : tie.Need-returns Inv-loop μ-loop
 returns c =
-    let start = c .before .before .before .before .before .before .before in
-    let done : c .before .before .before .loop .rest ≡ 0 = omega (arith, c .before .before .loop-test .left) in
-    settled-all (start .args .count) (start .args .rows .now) (start .args .sizes .now) (start .args .order .now) (start .args .cover)
-    (c .largest-at2 .ensures) (λ j h. c .before .before .before .loop .inv .settled j h (rw done (none j)))
+    underway-all (c .before .before .before .loop .inv) (omega (arith, c .before .before .loop-test .left)) (c .largest-at2 .ensures)
 
 pub path-bound-spec : {M : Type 1} → statement M
 path-bound-spec =
