@@ -1,5 +1,4 @@
 // The largest sum of sizes over paths: lists of places where only neighbours must satisfy the relation.
-ghost use mathlib.Core.Path.{_≡_};
 ghost use Rattle.stack.specs.Places.{Inside};
 ghost use Rattle.stack.specs.Setting.{Ready};
 ghost use Rattle.stack.specs.Paths.{LargestAt, PathBound, NoneAbove};

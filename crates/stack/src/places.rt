@@ -43,7 +43,7 @@ pub fn without(set: u64, place: usize) -> u64
 }
 
 // The places below count.
-pub fn first(count: usize) -> u64
+pub fn all_below(count: usize) -> u64
     requires { ⌜ count ≤ 64 ⌝ }
     ensures { λ r. ⌜ Below count r ⌝ }
 {
