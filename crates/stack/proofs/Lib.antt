@@ -1,0 +1,6 @@
+pub mod Sets
+pub mod Sums
+pub mod Meeting
+pub mod Opening
+pub mod Extending
+pub mod Inserting

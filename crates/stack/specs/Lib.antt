@@ -1,0 +1,5 @@
+pub mod Places
+pub mod Order
+pub mod Setting
+pub mod Paths
+pub mod Search
