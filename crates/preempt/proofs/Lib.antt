@@ -1,0 +1,7 @@
+pub mod Columns
+pub mod SingleBits
+pub mod Maps
+pub mod Accepted
+pub mod Pairs
+pub mod Reading
+pub mod Calls

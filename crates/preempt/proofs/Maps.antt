@@ -1,0 +1,115 @@
+-- Laws of maps: their cells are the test they are made from, and one more cell may be set.
+use Prim.Native.Nat.{ℕ, _+_, _^_, _≤_, _<_}
+use mathlib.Core.List.{List}
+use mathlib.Core.Bool.{Bool, true, false, cond, _&&_, _||_}
+use mathlib.Core.Path.{_≡_, refl, ap, sym, _∙_}
+use native.Mathlib.Omega.{arith}
+use borrow.Author.Tests.{lt-ltb, ltb-true, ltb-false, eq-eqb, ne-eqb}
+use lib.Bits.{bitOr, or-lt}
+use lib.Dec.{ltb, eqb}
+use lib.ListN.{length, getD, set, replicate}
+use lib.Pow.{pow-lt}
+use Rattle.rules.specs.Numbers.{sumTo}
+use Rattle.rules.specs.Preempt.{cell, rowFrom, mapFrom}
+use Rattle.rules.proofs.Numbers.{either, sumTo-ext}
+use Rattle.preempt.specs.Bits.{bitAt, bitsTo, column, marked, withPair}
+use Rattle.preempt.proofs.Columns.{column-length, column-at, column-ext, column-zero, column-set}
+use Rattle.preempt.proofs.SingleBits.{bit-of-power, bit-or, bits-at, bits-small, bits-none, bits-made}
+
+-- the bits of a row
+abbrev pub rowTest : ℕ → (ℕ → Bool) → ℕ → Bool
+rowTest n test j = ltb j n && test j
+
+-- a map is a column of rows
+map-column : (n : ℕ) (test : ℕ → ℕ → Bool) → mapFrom n test ≡ column n (λ i. rowFrom n (test i))
+unfolding mapFrom column
+map-column n test = refl
+
+pub map-length : (n : ℕ) (test : ℕ → ℕ → Bool) → length (mapFrom n test) ≡ 64
+map-length n test = ap length (map-column n test) ∙ column-length n (λ i. rowFrom n (test i))
+
+-- the row at a place that holds a task
+map-row : (n : ℕ) (test : ℕ → ℕ → Bool) (i : ℕ) → n ≤ 64 → i < n → getD (mapFrom n test) i 0 ≡ rowFrom n (test i)
+map-row n test i most h =
+    ap (λ (l : List ℕ). getD l i 0) (map-column n test) ∙ column-at n (λ i. rowFrom n (test i)) i most h
+
+-- the cells of a map are the test that it is made from
+pub cell-of-map : (n : ℕ) (test : ℕ → ℕ → Bool) (i j : ℕ) → n ≤ 64 → i < n → j < n → cell (mapFrom n test) i j ≡ test i j
+cell-of-map n test i j most h l =
+    ap (λ (row : ℕ). bitAt row j) (map-row n test i most h)
+    ∙ bits-at (rowTest n (test i)) 64 j (omega arith)
+    ∙ rw (lt-ltb j n l)
+
+-- rows from tests that agree below n are equal, and so are maps
+pub row-ext : (n : ℕ) (test other : ℕ → Bool) → ((j : ℕ) → j < n → test j ≡ other j) → rowFrom n test ≡ rowFrom n other
+row-ext n test other same =
+    sumTo-ext (λ j. cond (rowTest n test j) (2 ^ j) 0) (λ j. cond (rowTest n other j) (2 ^ j) 0) 64
+    (λ j h. either (ltb j n) (λ t. rw (t, same j (ltb-true j n t))) (λ t. rw t))
+
+pub map-ext : (n : ℕ) (test other : ℕ → ℕ → Bool) → ((i j : ℕ) → i < n → j < n → test i j ≡ other i j) → mapFrom n test ≡ mapFrom n other
+map-ext n test other same =
+    map-column n test
+    ∙ column-ext n (λ i. rowFrom n (test i)) (λ i. rowFrom n (other i)) (λ i h. row-ext n (test i) (other i) (λ j l. same i j h l))
+    ∙ sym (map-column n other)
+
+-- where no test passes, each row is 0
+pub map-none : (n : ℕ) (test : ℕ → ℕ → Bool) → ((i j : ℕ) → test i j ≡ false) → replicate 64 0 ≡ mapFrom n test
+map-none n test none =
+    column-zero n (λ i. rowFrom n (test i))
+    (λ i h. bits-none (rowTest n (test i)) 64 (λ j. either (ltb j n) (λ t. rw (t, none i j)) (λ t. rw t)))
+    ∙ sym (map-column n test)
+
+-- one more bit of a row
+row-marked : (n : ℕ) (test : ℕ → Bool) (b : ℕ) → n ≤ 64 → b < n → bitOr (rowFrom n test) (2 ^ b) ≡ rowFrom n (λ j. test j || eqb j b)
+row-marked n test b most h =
+    let row = rowFrom n test in
+    let more : ℕ → Bool = λ j. test j || eqb j b in
+    let bit : (j : ℕ) → j < 64 → bitAt (bitOr row (2 ^ b)) j ≡ rowTest n more j = λ j l. bit-or row (2 ^ b) j ∙ rw (bits-at (rowTest n test) 64 j l, bit-of-power b j) (either (ltb j n) (λ t. rw t) (λ t. rw (t, ne-eqb j b (λ e. omega (arith, ltb-false j n t))))) in
+    bits-made (bitOr row (2 ^ b)) 64 (or-lt 64 row (2 ^ b) (bits-small (rowTest n test) 64) (pow-lt {j = 64} (omega arith)))
+    ∙ sumTo-ext (λ j. cond (bitAt (bitOr row (2 ^ b)) j) (2 ^ j) 0) (λ j. cond (rowTest n more j) (2 ^ j) 0) 64
+    (λ j l. ap (λ (t : Bool). cond t (2 ^ j) 0) (bit j l))
+
+-- one more cell of a map
+pub map-marked : (n : ℕ) (test : ℕ → ℕ → Bool) (a b : ℕ) → n ≤ 64 → a < n → b < n
+    → marked (mapFrom n test) a b ≡ mapFrom n (λ i j. test i j || (eqb i a && eqb j b))
+map-marked n test a b most h l =
+    let more : ℕ → ℕ → Bool = λ i j. test i j || (eqb i a && eqb j b) in
+    let row = bitOr (getD (mapFrom n test) a 0) (2 ^ b) in
+    ap (λ (rows : List ℕ). set rows a row) (map-column n test)
+    ∙ column-set n (λ i. rowFrom n (test i)) (λ i. rowFrom n (more i)) a row most h
+    (λ i k other. row-ext n (test i) (more i) (λ j m. rw (ne-eqb i a other) (either (test i j) (λ t. rw t) (λ t. rw t))))
+    (ap (λ (r : ℕ). bitOr r (2 ^ b)) (map-row n test a most h)
+    ∙ row-marked n (test a) b most l
+    ∙ row-ext n (λ j. test a j || eqb j b) (more a) (λ j m. rw (eq-eqb a a refl)))
+    ∙ sym (map-column n more)
+
+-- tests put together in another order
+or-false : (x : Bool) → (x || false) ≡ x
+or-false true = refl
+or-false false = refl
+
+regroup : (x y p q : Bool) → ((x || y) || (p && q)) ≡ (x || (y || (q && p)))
+regroup true y p q = refl
+regroup false true p q = refl
+regroup false false true true = refl
+regroup false false true false = refl
+regroup false false false true = refl
+regroup false false false false = refl
+
+-- what a pair adds to a map, one way or both
+one-or-both : (n : ℕ) (test : ℕ → ℕ → Bool) (both : Bool) (a b : ℕ) → n ≤ 64 → a < n → b < n
+    → cond both (marked (marked (mapFrom n test) a b) b a) (marked (mapFrom n test) a b)
+    ≡ mapFrom n (λ i j. test i j || ((eqb i a && eqb j b) || (both && (eqb j a && eqb i b))))
+one-or-both n test true a b most h l =
+    ap (λ (rows : List ℕ). marked rows b a) (map-marked n test a b most h l)
+    ∙ map-marked n (λ i j. test i j || (eqb i a && eqb j b)) b a most l h
+    ∙ map-ext n (λ i j. (test i j || (eqb i a && eqb j b)) || (eqb i b && eqb j a)) (λ i j. test i j || ((eqb i a && eqb j b) || (eqb j a && eqb i b)))
+    (λ i j k m. regroup (test i j) (eqb i a && eqb j b) (eqb i b) (eqb j a))
+one-or-both n test false a b most h l =
+    map-marked n test a b most h l
+    ∙ map-ext n (λ i j. test i j || (eqb i a && eqb j b)) (λ i j. test i j || ((eqb i a && eqb j b) || false))
+    (λ i j k m. ap (λ (x : Bool). test i j || x) (sym (or-false (eqb i a && eqb j b))))
+
+pub map-with-pair : (n : ℕ) (test : ℕ → ℕ → Bool) (sort a b : ℕ) → n ≤ 64 → a < n → b < n
+    → withPair (mapFrom n test) sort a b ≡ mapFrom n (λ i j. test i j || ((eqb i a && eqb j b) || (eqb sort 1 && (eqb j a && eqb i b))))
+map-with-pair n test sort a b most h l = one-or-both n test (eqb sort 1) a b most h l

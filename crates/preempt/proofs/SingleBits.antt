@@ -1,0 +1,142 @@
+-- Laws of single bits: of a power of two, of two numbers joined by or, and of a sum of powers.
+use Prim.Native.Nat.{ℕ, zero, suc, _+_, _*_, _-_, _/_, _%_, _^_, _≤_, _<_, max}
+use mathlib.Core.Bool.{Bool, true, false, cond, _||_}
+use mathlib.Core.Path.{_≡_, refl, ap, sym, _∙_}
+use native.Mathlib.Numerals.{add-one}
+use native.Mathlib.Nat.{pow-suc, div-eq-of-lt, add-mul-div-right, add-zero, zero-add}
+use native.Mathlib.Omega.{arith}
+use borrow.Author.Tests.{ltb-true, ltb-false, eq-eqb, ne-eqb, eqb-true, eqb-false}
+use lib.Bits.{bitOr, or-shr, or-step}
+use lib.Pow.{pow-pos, pow-mono, pow-add, pow-lt, high, shl-shr}
+use lib.Dec.{ltb, eqb}
+use Rattle.rules.specs.Numbers.{sumTo}
+use Rattle.rules.proofs.Numbers.{either, sumTo-step, sumTo-zero, sumTo-ext}
+use Rattle.preempt.specs.Bits.{bitAt, bitsTo}
+
+-- a higher power of two is an even multiple of a lower one
+higher-power : (j m : ℕ) → j < m → 2 ^ m ≡ (2 ^ (m - j - 1) * 2) * 2 ^ j
+higher-power j m h =
+    let e : m ≡ (suc (m - j - 1)) + j = omega arith in
+    ap (λ (n : ℕ). 2 ^ n) e ∙ pow-add 2 (suc (m - j - 1)) j ∙ ap (λ (n : ℕ). n * 2 ^ j) (pow-suc 2 (m - j - 1))
+
+-- a higher power added leaves the bits below it as they are
+pub bit-below : (s j m : ℕ) → j < m → bitAt (s + 2 ^ m) j ≡ bitAt s j
+bit-below s j m h =
+    let e : (s + 2 ^ m) / 2 ^ j ≡ s / 2 ^ j + 2 ^ (m - j - 1) * 2 = ap (λ (n : ℕ). (s + n) / 2 ^ j) (higher-power j m h) ∙ add-mul-div-right s (2 ^ (m - j - 1) * 2) (pow-pos j) in
+    let even : (s / 2 ^ j + 2 ^ (m - j - 1) * 2) % 2 ≡ s / 2 ^ j % 2 = omega arith in
+    ap (λ (n : ℕ). eqb (n % 2) 1) e ∙ ap (λ (n : ℕ). eqb n 1) even
+
+-- a number below a power of two lacks its bit, and has it where the power is added
+pub bit-lacks : (s m : ℕ) → s < 2 ^ m → bitAt s m ≡ false
+bit-lacks s m h = rw (div-eq-of-lt h)
+
+pub bit-added : (s m : ℕ) → s < 2 ^ m → bitAt (s + 2 ^ m) m ≡ true
+bit-added s m h =
+    let e : s + 2 ^ m ≡ 1 * 2 ^ m + s = omega arith in
+    ap (λ (n : ℕ). eqb (n % 2) 1) (ap (λ (n : ℕ). n / 2 ^ m) e ∙ high 1 m h)
+
+-- a power of two has one bit
+pub bit-of-power : (b j : ℕ) → bitAt (2 ^ b) j ≡ eqb j b
+bit-of-power b j =
+    ap (λ (n : ℕ). bitAt n j) (sym (zero-add (2 ^ b)))
+    ∙ either (ltb j b)
+    (λ t.
+    let below = ltb-true j b t in
+    bit-below 0 j b below ∙ bit-lacks 0 j (pow-pos j) ∙ sym (ne-eqb j b (λ e. omega arith)))
+    (λ t.
+    either (eqb j b)
+    (λ u. rw (eqb-true j b u, eq-eqb b b refl) (bit-added 0 b (pow-pos b)))
+    (λ u.
+    let above : b < j = omega (arith, ltb-false j b t, eqb-false j b u) in
+    ap (λ (n : ℕ). bitAt n j) (zero-add (2 ^ b)) ∙ bit-lacks (2 ^ b) j (pow-lt above) ∙ sym u))
+
+-- the lowest bit of two numbers joined
+lowest-or : (x y : ℕ) → eqb (bitOr x y % 2) 1 ≡ (eqb (x % 2) 1 || eqb (y % 2) 1)
+lowest-or x y =
+    let e : bitOr x y % 2 ≡ max (x % 2) (y % 2) = omega (arith, or-step x y) in
+    ap (λ (n : ℕ). eqb n 1) e
+    ∙ either (eqb (x % 2) 1)
+    (λ t. rw (t, eq-eqb (max (x % 2) (y % 2)) 1 (omega (arith, eqb-true (x % 2) 1 t))))
+    (λ t.
+    let same : max (x % 2) (y % 2) ≡ y % 2 = omega (arith, eqb-false (x % 2) 1 t) in
+    rw (t, same))
+
+-- bit j of two numbers joined is set where it is set in either
+pub bit-or : (a b j : ℕ) → bitAt (bitOr a b) j ≡ (bitAt a j || bitAt b j)
+bit-or a b j = ap (λ (n : ℕ). eqb (n % 2) 1) (or-shr a b j) ∙ lowest-or (a / 2 ^ j) (b / 2 ^ j)
+
+-- a sum of powers of two below n is below 2 ^ n
+pub bits-small : (set : ℕ → Bool) (n : ℕ) → bitsTo set n < 2 ^ n
+unfolding sumTo
+bits-small set zero = omega arith
+bits-small set (suc n) =
+    either (set n)
+    (λ t. rw t (omega (arith, bits-small set n, pow-suc 2 n)))
+    (λ t. rw t (omega (arith, bits-small set n, pow-suc 2 n)))
+
+-- and its bits are those of the test
+pub bits-at : (set : ℕ → Bool) (n j : ℕ) → j < n → bitAt (bitsTo set n) j ≡ set j
+unfolding sumTo
+bits-at set zero j h = absurd (omega arith)
+bits-at set (suc n) j h =
+    either (ltb j n)
+    (λ t.
+    let below = ltb-true j n t in
+    either (set n)
+    (λ u. rw u (bit-below (bitsTo set n) j n below ∙ bits-at set n j below))
+    (λ u. rw u (ap (λ (s : ℕ). bitAt s j) (add-zero (bitsTo set n)) ∙ bits-at set n j below)))
+    (λ t.
+    let here : j ≡ n = omega (arith, ltb-false j n t) in
+    rw here
+    (either (set n)
+    (λ u. rw u (bit-added (bitsTo set n) n (bits-small set n)))
+    (λ u. rw u (ap (λ (s : ℕ). bitAt s n) (add-zero (bitsTo set n)) ∙ bit-lacks (bitsTo set n) n (bits-small set n)))))
+
+-- one more bit that is set, or is not
+pub bits-more : (set : ℕ → Bool) (n : ℕ) → set n ≡ true → bitsTo set (n + 1) ≡ bitsTo set n + 2 ^ n
+bits-more set n e = sumTo-step (λ j. cond (set j) (2 ^ j) 0) n ∙ rw e
+
+pub bits-same : (set : ℕ → Bool) (n : ℕ) → set n ≡ false → bitsTo set (n + 1) ≡ bitsTo set n
+bits-same set n e = sumTo-step (λ j. cond (set j) (2 ^ j) 0) n ∙ rw e (add-zero (bitsTo set n))
+
+-- there is room for one more of 64 bits
+pub bits-room : (set : ℕ → Bool) (n : ℕ) → n < 64 → bitsTo set n + 2 ^ n < 18446744073709551616
+bits-room set n h =
+    let most : 2 ^ suc n ≤ 2 ^ 64 = pow-mono {j = 64} (omega arith) in
+    omega (arith, most, pow-suc 2 n, bits-small set n)
+
+-- where no bit is set from n on, those below n are all
+pub bits-end : (set : ℕ → Bool) (n m : ℕ) → n ≤ m → ((j : ℕ) → n ≤ j → set j ≡ false) → bitsTo set m ≡ bitsTo set n
+unfolding sumTo
+bits-end set n zero h none =
+    let e : n ≡ 0 = omega arith in
+    rw e
+bits-end set n (suc m) h none =
+    either (ltb m n)
+    (λ t.
+    let e : n ≡ suc m = omega (arith, ltb-true m n t) in
+    rw e)
+    (λ t.
+    let past = ltb-false m n t in
+    rw (none m past) (add-zero (bitsTo set m) ∙ bits-end set n m past none))
+
+-- where no bit is set, the number is 0
+pub bits-none : (set : ℕ → Bool) (n : ℕ) → ((j : ℕ) → set j ≡ false) → bitsTo set n ≡ 0
+bits-none set n none = bits-end set 0 n (omega arith) (λ j h. none j) ∙ sumTo-zero (λ j. cond (set j) (2 ^ j) 0)
+
+-- a number of n bits is made of its bits
+pub bits-made : (x n : ℕ) → x < 2 ^ n → x ≡ bitsTo (bitAt x) n
+unfolding sumTo
+bits-made x zero h = omega arith
+bits-made x (suc n) h =
+    either (ltb x (2 ^ n))
+    (λ t.
+    let small = ltb-true x (2 ^ n) t in
+    rw (bit-lacks x n small) (bits-made x n small ∙ sym (add-zero (bitsTo (bitAt x) n))))
+    (λ t.
+    let rest = x - 2 ^ n in
+    let parts : x ≡ rest + 2 ^ n = omega (arith, ltb-false x (2 ^ n) t) in
+    let small : rest < 2 ^ n = omega (arith, pow-suc 2 n) in
+    let top : bitAt x n ≡ true = ap (λ (y : ℕ). bitAt y n) parts ∙ bit-added rest n small in
+    let others : bitsTo (bitAt x) n ≡ bitsTo (bitAt rest) n = sumTo-ext (λ j. cond (bitAt x j) (2 ^ j) 0) (λ j. cond (bitAt rest j) (2 ^ j) 0) n (λ j l. ap (λ (b : Bool). cond b (2 ^ j) 0) (ap (λ (y : ℕ). bitAt y j) parts ∙ bit-below rest j n l)) in
+    rw (top, others) (parts ∙ ap (λ (y : ℕ). y + 2 ^ n) (bits-made rest n small)))

@@ -1,0 +1,34 @@
+use lib.Dec.{ltb}
+use Prim.Native.Nat.{_-_}
+use borrow.Author.Tests.{eq-eqb, ne-eqb, lt-ltb, le-ltb}
+use native.Mathlib.Omega.{arith}
+use borrow.Author.Needs.{needs}
+use Rattle.preempt.proofs.decide.is_timely.Statement.{statement}
+use Rattle.preempt.proofs.decide.is_timely.Tie as tie
+use Rattle.preempt.proofs.decide.is_timely.Reads as reads
+use Rattle.preempt.proofs.decide.is_timely.Lts as lts
+use Rattle.preempt.proofs.decide.distance.Reads as distance-reads
+use Rattle.preempt.proofs.decide.excess.Reads as excess-reads
+
+returns : tie.Need-returns
+returns c = rw (ne-eqb _ _ (c .if1 .taken))
+
+distance-requires : tie.Need-distance-requires
+distance-requires c κs = search needs
+
+returns-2 : tie.Need-returns-2
+returns-2 c = rw (eq-eqb _ _ (c .before .before .before .if1 .left), ← c .before .before .distance .ensures, lt-ltb _ _ (c .if2 .taken))
+
+excess-requires : tie.Need-excess-requires
+excess-requires c κs = search needs
+
+excess-requires-2 : tie.Need-excess-requires-2
+excess-requires-2 c κs = search needs
+
+returns-3 : tie.Need-returns-3
+returns-3 c = rw (eq-eqb _ _ (c .before .before .before .before .before .if1 .left), ← c .before .before .before .before .distance .ensures, le-ltb _ _ (c .before .before .if2 .left), c .before .excess .ensures, c .excess2 .ensures)
+
+pub is-timely-spec : {M : Type 1} → statement M
+is-timely-spec =
+    tie.close
+    (tie.spec returns distance-requires returns-2 excess-requires excess-requires-2 returns-3)

@@ -1,0 +1,72 @@
+use Rattle.rules.specs.Calls.{over}
+use Rattle.rules.specs.Refusals.{accepted, tableVerdict}
+use Rattle.rules.specs.Records.{taskCount}
+use Rattle.rules.specs.Preempt.{decided}
+use Rattle.rules.specs.Blocks.{records}
+use Rattle.rules.specs.declared.Verdict.{Verdict}
+use mathlib.Core.List.{List}
+use lib.ListN.{length}
+use Rattle.preempt.proofs.Maps.{map-length}
+use Rattle.preempt.proofs.Calls.{map-refused, map-short, map-filled}
+use borrow.Author.Tests.{eq-eqb, ne-eqb}
+use mathlib.Core.Bool.{true, false}
+use mathlib.Core.Path.{_≡_, ap, sym, _∙_}
+use Prim.Native.Nat.{ℕ, _≤_}
+use native.Mathlib.Omega.{arith}
+use borrow.Author.Needs.{needs}
+use Rattle.preempt.proofs.map.fill_map.Statement.{statement}
+use Rattle.preempt.proofs.map.fill_map.Tie as tie
+use Rattle.preempt.proofs.map.fill_map.Reads as reads
+use Rattle.preempt.proofs.map.fill_map.Lts as lts
+use Rattle.preempt.proofs.map.table_map.Reads as table-map-reads
+use Rattle.preempt.proofs.map.write_rows.Reads as write-rows-reads
+use Rattle.table.proofs.table_verdict.Reads as table-verdict-reads
+
+-- the table is accepted
+right : (c : tie.Else1) → accepted (tableVerdict (c .before .before .before .before .before .args .image .now)) ≡ true
+right c = eq-eqb _ 0 (ap (λ (v : Verdict). v .number) (sym (c .before .before .table-verdict .ensures)) ∙ c .if1 .left)
+
+table-verdict-requires : tie.Need-table-verdict-requires
+table-verdict-requires c κs = search needs
+
+returns : tie.Need-returns
+returns c =
+    let a = c .before .before .before .before .before .args in
+    let verdict = c .before .before .table-verdict .ensures in
+    let refused : accepted (tableVerdict (a .image .now)) ≡ false = ne-eqb _ 0 (λ e. c .if1 .taken (ap (λ (v : Verdict). v .number) verdict ∙ e)) in
+    let call = map-refused (a .image .now) (a .rows .now) refused in
+    (verdict ∙ call .0, call .1)
+
+returns-2 : tie.Need-returns-2
+returns-2 c =
+    let a = c .before .before .before .before .before .before .args in
+    map-short (a .image .now) (a .rows .now) (right (c .before)) (c .if2 .taken)
+
+table-map-requires : tie.Need-table-map-requires
+table-map-requires c κs = right (c .before)
+
+write-rows-requires : tie.Need-write-rows-requires
+write-rows-requires c κs =
+    let rs = records (c .before .before .before .before .before .before .before .before .args .image .now) in
+    (ap length (c .before .table-map .ensures) ∙ map-length (taskCount rs) (decided rs), c .before .before .if2 .left)
+
+same-length : tie.Need-same-length
+same-length c = search needs
+
+returns-3 : tie.Need-returns-3
+returns-3 c =
+    let a = c .before .before .before .before .before .before .before .before .before .before .before .args in
+    let call = map-filled (a .image .now) (a .rows .now) (right (c .before .before .before .before .before .before)) (c .before .before .before .before .before .if2 .left) in
+    (call .0, c .before .before .write-rows .ensures ∙ ap (λ (map : List ℕ). over map (a .rows .now)) (c .before .before .before .before .table-map .ensures) ∙ call .1)
+
+pub fill-map-spec : {M : Type 1} → statement M
+fill-map-spec =
+    tie.close
+    (tie.spec
+    table-verdict-requires
+    returns
+    returns-2
+    table-map-requires
+    write-rows-requires
+    same-length
+    returns-3)

@@ -1,0 +1,91 @@
+use Rattle.preempt.proofs.SingleBits.{bits-more, bits-same, bits-room, bits-end}
+use Rattle.preempt.specs.declared.tasks.Tasks.{Tasks}
+use Rattle.preempt.specs.Tasks.{decidedBy}
+use Rattle.preempt.specs.Bits.{bitsTo}
+use Rattle.rules.proofs.Numbers.{sumTo-zero}
+use lib.Dec.{ltb}
+use borrow.Author.Tests.{lt-ltb, le-ltb}
+use mathlib.Core.Path.{_≡_, refl, ap, sym, _∙_}
+use mathlib.Core.List.{List}
+use mathlib.Core.Logic.{⊎-elim}
+use mathlib.Core.Bool.{Bool, true, false, _&&_}
+use Prim.Native.Nat.{ℕ, _+_, _-_, _^_, _≤_, _<_}
+use native.Mathlib.Omega.{arith}
+use borrow.Author.Needs.{needs}
+use Rattle.preempt.proofs.map.row.Statement.{statement}
+use Rattle.preempt.proofs.map.row.Tie as tie
+use Rattle.preempt.proofs.map.row.Reads as reads
+use Rattle.preempt.proofs.map.row.Lts as lts
+use Rattle.preempt.proofs.bits.power.Reads as power-reads
+use Rattle.preempt.proofs.map.decide.Reads as decide-reads
+
+-- whether cell j of row i is set
+abbrev is-cell : Tasks → List ℕ → ℕ → ℕ → Bool
+is-cell tasks barred i j = ltb j (tasks .count) && decidedBy tasks barred i j
+
+abbrev Inv-loop : tie.InvT-loop
+Inv-loop tasks barred i row₀ j₀ row j = (j ≤ tasks .count) × (row ≡ bitsTo (is-cell tasks barred i) j)
+
+abbrev μ-loop : tie.MeasureT-loop
+μ-loop tasks barred i row₀ j₀ row j = tasks .count - j
+
+loop-holds : tie.Need-loop-holds Inv-loop μ-loop
+loop-holds c = (omega arith, sym (sumTo-zero _))
+
+decide-requires : tie.Need-decide-requires Inv-loop μ-loop
+decide-requires c κs = search needs
+
+power-requires : tie.Need-power-requires Inv-loop μ-loop
+power-requires c κs = search needs
+
+add-row : tie.Need-add-row Inv-loop μ-loop
+add-row c =
+    let a = c .before .before .before .before .before .before .args in
+    let j = c .before .before .before .before .before .loop .j in
+    omega (arith, c .power .ensures, c .before .before .before .before .before .loop .inv .1, bits-room (is-cell (a .tasks) (a .barred) (a .i)) j (omega arith))
+
+add-j : tie.Need-add-j Inv-loop μ-loop
+add-j c = search needs
+
+loop-less : tie.Need-loop-less Inv-loop μ-loop
+loop-less c = search needs
+
+loop-again : tie.Need-loop-again Inv-loop μ-loop
+loop-again c =
+    let a = c .before .before .before .before .before .args in
+    let j = c .before .before .before .before .loop .j in
+    let sum = c .before .before .before .before .loop .inv .1 in
+    let test = is-cell (a .tasks) (a .barred) (a .i) in
+    let below = lt-ltb j (a .tasks .count) (c .before .before .if1 .taken) in
+    ⊎-elim
+    (λ w.
+    let set : test j ≡ true = rw (below, ← c .before .decide .ensures) (w .0 .taken) in
+    (omega arith, w .2 ∙ rw (w .1 .ensures, sum) (sym (bits-more test j set))))
+    (λ w.
+    let unset : test j ≡ false = rw (below, ← c .before .decide .ensures) (w .0 .left) in
+    (omega arith, w .1 ∙ sum ∙ sym (bits-same test j unset)))
+    (c .if2 .came)
+
+returns : tie.Need-returns Inv-loop μ-loop
+returns c =
+    let a = c .before .before .before .args in
+    let test = is-cell (a .tasks) (a .barred) (a .i) in
+    let end : c .before .before .loop .j ≡ a .tasks .count = omega arith in
+    c .before .before .loop .inv .1
+    ∙ ap (bitsTo test) end
+    ∙ sym (bits-end test (a .tasks .count) 64 (omega arith) (λ j h. rw (le-ltb j (a .tasks .count) h)))
+
+pub row-spec : {M : Type 1} → statement M
+row-spec =
+    tie.close
+    (tie.spec
+    Inv-loop
+    μ-loop
+    loop-holds
+    decide-requires
+    power-requires
+    add-row
+    add-j
+    loop-less
+    loop-again
+    returns)

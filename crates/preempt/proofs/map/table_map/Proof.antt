@@ -1,0 +1,34 @@
+use Rattle.preempt.proofs.Reading.{map-read}
+use Rattle.preempt.proofs.Accepted.{shape}
+use Rattle.rules.specs.Blocks.{records}
+use mathlib.Core.Path.{_≡_, _∙_}
+use Prim.Native.Nat.{ℕ, _≤_}
+use native.Mathlib.Omega.{arith}
+use borrow.Author.Needs.{needs}
+use Rattle.preempt.proofs.map.table_map.Statement.{statement}
+use Rattle.preempt.proofs.map.table_map.Tie as tie
+use Rattle.preempt.proofs.map.table_map.Reads as reads
+use Rattle.preempt.proofs.map.table_map.Lts as lts
+use Rattle.preempt.proofs.barred.read_barred.Reads as read-barred-reads
+use Rattle.preempt.proofs.map.map_of.Reads as map-of-reads
+use Rattle.preempt.proofs.tasks.read_tasks.Reads as read-tasks-reads
+
+read-tasks-requires : tie.Need-read-tasks-requires
+read-tasks-requires c κs = search needs
+
+read-barred-requires : tie.Need-read-barred-requires
+read-barred-requires c κs = search needs
+
+map-of-requires : tie.Need-map-of-requires
+map-of-requires c κs = omega (arith, c .before .read-tasks .ensures .count, shape (c .before .before .before .args .image .now) (c .before .before .shared-slice-known .given) (c .before .before .before .pre) .few-tasks)
+
+returns : tie.Need-returns
+returns c =
+    let start = c .before .before .before .before in
+    let tasks = c .before .before .read-tasks in
+    let barred = c .before .read-barred in
+    c .map-of .ensures ∙ map-read (records (start .args .image .now)) (tasks .result) (barred .result) (shape (start .args .image .now) (c .before .before .before .shared-slice-known .given) (start .pre)) (tasks .ensures) (barred .ensures)
+
+pub table-map-spec : {M : Type 1} → statement M
+table-map-spec =
+    tie.close (tie.spec read-tasks-requires read-barred-requires map-of-requires returns)

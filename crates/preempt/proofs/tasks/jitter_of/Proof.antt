@@ -1,0 +1,16 @@
+use borrow.Author.Tests.{eq-eqb, ne-eqb}
+use native.Mathlib.Omega.{arith}
+use borrow.Author.Needs.{needs}
+use Rattle.preempt.proofs.tasks.jitter_of.Statement.{statement}
+use Rattle.preempt.proofs.tasks.jitter_of.Tie as tie
+use Rattle.preempt.proofs.tasks.jitter_of.Reads as reads
+use Rattle.preempt.proofs.tasks.jitter_of.Lts as lts
+
+returns : tie.Need-returns
+returns c = rw (eq-eqb _ _ (c .if1 .taken))
+
+returns-2 : tie.Need-returns-2
+returns-2 c = rw (ne-eqb _ _ (c .if1 .left))
+
+pub jitter-of-spec : {M : Type 1} → statement M
+jitter-of-spec = tie.close (tie.spec returns returns-2)

@@ -1,0 +1,212 @@
+use Rattle.preempt.proofs.Accepted.{shape, task-record}
+use Rattle.preempt.proofs.Columns.{column-none, column-filled}
+use Rattle.preempt.specs.Bits.{column}
+use Rattle.rules.specs.declared.Task.{Task}
+use Rattle.rules.specs.Records.{transactions as Records·transactions, tasks, taskOf, taskCount, taskAt, periodIn}
+use Rattle.rules.specs.Blocks.{records, recordAt}
+use lib.ListN.{length, getD}
+use mathlib.Core.List.{List, []}
+use mathlib.Core.Path.{_≡_, refl, ap, sym, _∙_}
+use Prim.Native.Nat.{ℕ, _+_, _-_, _≤_, _<_}
+use native.Mathlib.Omega.{arith}
+use borrow.Author.Needs.{needs}
+use Rattle.preempt.proofs.tasks.read_tasks.Statement.{statement}
+use Rattle.preempt.proofs.tasks.read_tasks.Tie as tie
+use Rattle.preempt.proofs.tasks.read_tasks.Reads as reads
+use Rattle.preempt.proofs.tasks.read_tasks.Lts as lts
+use Rattle.image.proofs.records.record_at.Reads as record-at-reads
+use Rattle.preempt.proofs.tasks.period_in.Reads as period-in-reads
+use Rattle.preempt.proofs.tasks.task_of.Reads as task-of-reads
+use Rattle.table.proofs.count.count_kind.Reads as count-kind-reads
+
+-- the fields of the task at a place, and the period of its transaction
+abbrev id-of : List ℕ → ℕ → ℕ
+id-of image k = taskAt (records image) k .id
+
+abbrev transaction-of : List ℕ → ℕ → ℕ
+transaction-of image k = taskAt (records image) k .transaction
+
+abbrev priority-of : List ℕ → ℕ → ℕ
+priority-of image k = taskAt (records image) k .priority
+
+abbrev offset-of : List ℕ → ℕ → ℕ
+offset-of image k = taskAt (records image) k .offset
+
+abbrev jitter-of : List ℕ → ℕ → ℕ
+jitter-of image k = taskAt (records image) k .jitter
+
+abbrev response-of : List ℕ → ℕ → ℕ
+response-of image k = taskAt (records image) k .response
+
+abbrev size-of : List ℕ → ℕ → ℕ
+size-of image k = taskAt (records image) k .size
+
+abbrev period-of : List ℕ → ℕ → ℕ
+period-of image k = periodIn (records image) (taskAt (records image) k .transaction)
+
+abbrev Inv-loop : tie.InvT-loop
+Inv-loop image first count ids₀ transactions₀ priorities₀ offsets₀ jitters₀ responses₀ sizes₀ periods₀ i₀ ids transactions priorities offsets jitters responses sizes periods i =
+    (i ≤ count) × (first ≤ 16) × (count ≤ 64)
+    × (ids ≡ column i (id-of image))
+    × (transactions ≡ column i (transaction-of image))
+    × (priorities ≡ column i (priority-of image))
+    × (offsets ≡ column i (offset-of image))
+    × (jitters ≡ column i (jitter-of image))
+    × (responses ≡ column i (response-of image))
+    × (sizes ≡ column i (size-of image))
+    × (periods ≡ column i (period-of image))
+
+abbrev μ-loop : tie.MeasureT-loop
+μ-loop image first count ids₀ transactions₀ priorities₀ offsets₀ jitters₀ responses₀ sizes₀ periods₀ i₀ ids transactions priorities offsets jitters responses sizes periods i = count - i
+
+-- what was read is the task at that place
+read : (c : tie.After-task-of Inv-loop μ-loop) → c .task-of .result ≡ taskAt (records (c .before .before .before .before .before .before .before .args .image .now)) (c .before .before .before .loop .i)
+read c =
+    let image = c .before .before .before .before .before .before .before .args .image .now in
+    let i = c .before .before .before .loop .i in
+    let inside : i < taskCount (records image) = omega (arith, c .before .before .before .before .count-kind2 .ensures .0) in
+    c .task-of .ensures ∙ ap taskOf (c .before .record-at .ensures ∙ ap (λ (n : ℕ). recordAt image (n + i)) (c .before .before .before .before .before .count-kind .ensures .0) ∙ task-record image (c .before .before .before .before .before .before .shared-slice-known .given) (c .before .before .before .before .before .before .before .pre) i inside)
+
+count-kind-requires : tie.Need-count-kind-requires Inv-loop μ-loop
+count-kind-requires c κs = search needs
+
+count-kind-requires-2 : tie.Need-count-kind-requires-2 Inv-loop μ-loop
+count-kind-requires-2 c κs = search needs
+
+loop-holds : tie.Need-loop-holds Inv-loop μ-loop
+loop-holds c =
+    let image = c .before .before .before .args .image .now in
+    let s = shape image (c .before .before .shared-slice-known .given) (c .before .before .before .pre) in
+    (omega arith, omega (arith, c .before .count-kind .ensures .0, s .few-transactions), omega (arith, c .count-kind2 .ensures .0, s .few-tasks), column-none (id-of image), column-none (transaction-of image), column-none (priority-of image), column-none (offset-of image), column-none (jitter-of image), column-none (response-of image), column-none (size-of image), column-none (period-of image))
+
+add-record-at : tie.Need-add-record-at Inv-loop μ-loop
+add-record-at c = search needs
+
+record-at-requires : tie.Need-record-at-requires Inv-loop μ-loop
+record-at-requires c κs = search needs
+
+task-of-requires : tie.Need-task-of-requires Inv-loop μ-loop
+task-of-requires c κs = search needs
+
+mul-ids : tie.Need-mul-ids Inv-loop μ-loop
+mul-ids c = search needs
+
+array-write-ids : tie.Need-array-write-ids Inv-loop μ-loop
+array-write-ids c = search needs
+
+mul-transactions : tie.Need-mul-transactions Inv-loop μ-loop
+mul-transactions c = search needs
+
+array-write-transactions : tie.Need-array-write-transactions Inv-loop μ-loop
+array-write-transactions c = search needs
+
+mul-priorities : tie.Need-mul-priorities Inv-loop μ-loop
+mul-priorities c = search needs
+
+array-write-priorities : tie.Need-array-write-priorities Inv-loop μ-loop
+array-write-priorities c = search needs
+
+mul-offsets : tie.Need-mul-offsets Inv-loop μ-loop
+mul-offsets c = search needs
+
+array-write-offsets : tie.Need-array-write-offsets Inv-loop μ-loop
+array-write-offsets c = search needs
+
+mul-jitters : tie.Need-mul-jitters Inv-loop μ-loop
+mul-jitters c = search needs
+
+array-write-jitters : tie.Need-array-write-jitters Inv-loop μ-loop
+array-write-jitters c = search needs
+
+mul-responses : tie.Need-mul-responses Inv-loop μ-loop
+mul-responses c = search needs
+
+array-write-responses : tie.Need-array-write-responses Inv-loop μ-loop
+array-write-responses c = search needs
+
+mul-sizes : tie.Need-mul-sizes Inv-loop μ-loop
+mul-sizes c = search needs
+
+array-write-sizes : tie.Need-array-write-sizes Inv-loop μ-loop
+array-write-sizes c = search needs
+
+period-in-requires : tie.Need-period-in-requires Inv-loop μ-loop
+period-in-requires c κs = (c .before .before .before .before .before .before .before .pre, c .before .before .before .before .before .count-kind .ensures .0)
+
+mul-periods : tie.Need-mul-periods Inv-loop μ-loop
+mul-periods c = search needs
+
+array-write-periods : tie.Need-array-write-periods Inv-loop μ-loop
+array-write-periods c = search needs
+
+add-i : tie.Need-add-i Inv-loop μ-loop
+add-i c = search needs
+
+loop-less : tie.Need-loop-less Inv-loop μ-loop
+loop-less c = search needs
+
+loop-again : tie.Need-loop-again Inv-loop μ-loop
+loop-again c =
+    let image = c .before .before .before .before .before .before .before .before .args .image .now in
+    let s = c .before .before .before .before .loop in
+    let here = read (c .before) in
+    (omega arith, omega arith, omega arith,
+    column-filled (s .i) (id-of image) (s .ids) _ (omega arith) (s .inv .3) (ap (λ (t : Task). t .id) here),
+    column-filled (s .i) (transaction-of image) (s .transactions) _ (omega arith) (s .inv .4) (ap (λ (t : Task). t .transaction) here),
+    column-filled (s .i) (priority-of image) (s .priorities) _ (omega arith) (s .inv .5) (ap (λ (t : Task). t .priority) here),
+    column-filled (s .i) (offset-of image) (s .offsets) _ (omega arith) (s .inv .6) (ap (λ (t : Task). t .offset) here),
+    column-filled (s .i) (jitter-of image) (s .jitters) _ (omega arith) (s .inv .7) (ap (λ (t : Task). t .jitter) here),
+    column-filled (s .i) (response-of image) (s .responses) _ (omega arith) (s .inv .8) (ap (λ (t : Task). t .response) here),
+    column-filled (s .i) (size-of image) (s .sizes) _ (omega arith) (s .inv .9) (ap (λ (t : Task). t .size) here),
+    column-filled (s .i) (period-of image) (s .periods) _ (omega arith) (s .inv .10) (c .period-in .ensures ∙ ap (λ (t : Task). periodIn (records image) (t .transaction)) here))
+
+returns : tie.Need-returns Inv-loop μ-loop
+returns c =
+    let image = c .before .before .before .before .before .args .image .now in
+    let s = c .before .loop in
+    let all : s .i ≡ taskCount (records image) = omega (arith, c .before .before .count-kind2 .ensures .0) in
+    record {
+      count = c .before .before .count-kind2 .ensures .0;
+      ids = s .inv .3 ∙ ap (λ (m : ℕ). column m (id-of image)) all;
+      transactions = s .inv .4 ∙ ap (λ (m : ℕ). column m (transaction-of image)) all;
+      priorities = s .inv .5 ∙ ap (λ (m : ℕ). column m (priority-of image)) all;
+      offsets = s .inv .6 ∙ ap (λ (m : ℕ). column m (offset-of image)) all;
+      jitters = s .inv .7 ∙ ap (λ (m : ℕ). column m (jitter-of image)) all;
+      responses = s .inv .8 ∙ ap (λ (m : ℕ). column m (response-of image)) all;
+      sizes = s .inv .9 ∙ ap (λ (m : ℕ). column m (size-of image)) all;
+      periods = s .inv .10 ∙ ap (λ (m : ℕ). column m (period-of image)) all;
+    }
+
+pub read-tasks-spec : {M : Type 1} → statement M
+read-tasks-spec =
+    tie.close
+    (tie.spec
+    Inv-loop
+    μ-loop
+    count-kind-requires
+    count-kind-requires-2
+    loop-holds
+    add-record-at
+    record-at-requires
+    task-of-requires
+    mul-ids
+    array-write-ids
+    mul-transactions
+    array-write-transactions
+    mul-priorities
+    array-write-priorities
+    mul-offsets
+    array-write-offsets
+    mul-jitters
+    array-write-jitters
+    mul-responses
+    array-write-responses
+    mul-sizes
+    array-write-sizes
+    period-in-requires
+    mul-periods
+    array-write-periods
+    add-i
+    loop-less
+    loop-again
+    returns)

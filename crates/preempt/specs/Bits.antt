@@ -1,0 +1,28 @@
+-- Single bits of a number, and columns of numbers by place.
+use Prim.Native.Nat.{ℕ, _/_, _%_, _^_}
+use mathlib.Core.List.{List}
+use mathlib.Core.Bool.{Bool, cond}
+use lib.Bits.{bitOr}
+use lib.Dec.{ltb, eqb}
+use lib.ListN.{getD, set}
+use Rattle.rules.specs.Numbers.{upTo, sumTo}
+
+-- bit j, counted from the lowest
+abbrev pub bitAt : ℕ → ℕ → Bool
+bitAt n j = eqb (n / 2 ^ j % 2) 1
+
+-- the number whose bits below n are set where the test passes
+abbrev pub bitsTo : (ℕ → Bool) → ℕ → ℕ
+bitsTo test n = sumTo (λ j. cond (test j) (2 ^ j) 0) n
+
+-- 64 numbers: f 0, .., f (n - 1), and 0 beyond
+unfoldable pub column : ℕ → (ℕ → ℕ) → List ℕ
+column n f = upTo (λ i. cond (ltb i n) (f i) 0) 64
+
+-- rows with bit j of row i set besides
+abbrev pub marked : List ℕ → ℕ → ℕ → List ℕ
+marked rows i j = set rows i (bitOr (getD rows i 0) (2 ^ j))
+
+-- rows with what a pair of this sort and these places forbids: one way, or for a precedence both
+abbrev pub withPair : List ℕ → ℕ → ℕ → ℕ → List ℕ
+withPair rows sort i j = cond (eqb sort 1) (marked (marked rows i j) j i) (marked rows i j)

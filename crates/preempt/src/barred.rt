@@ -1,0 +1,64 @@
+// The pairs of a table, read once into rows of bits by the places of their tasks.
+ghost use mathlib.Core.Path.{_≡_};
+ghost use mathlib.Core.Bool.{true};
+ghost use Prim.Native.Nat.{_≤_, _<_};
+ghost use lib.ListN.{length};
+ghost use Rattle.rules.specs.Blocks.{records};
+ghost use Rattle.rules.specs.Records.{numberOf, secondOf, sortOf};
+ghost use Rattle.rules.specs.Refusals.{accepted, tableVerdict};
+ghost use Rattle.table.specs.Numbers.{Rising, placeAmong};
+ghost use Rattle.preempt.specs.Bits.{marked, withPair};
+ghost use Rattle.preempt.specs.Tasks.{TasksRead, barredMap};
+use crate::bits::with_bit;
+use crate::tasks::Tasks;
+use image::bytes::byte_at;
+use image::bytes::two_bytes;
+use image::records::record_at;
+use table::count::count_kind;
+use table::place::place_of;
+
+// The rows with cell j of row i set besides.
+fn mark(rows: [u64; 64], i: usize, j: usize) -> [u64; 64]
+    requires { ⌜ (i < 64) × (j < 64) ⌝ }
+    ensures { λ r. ⌜ r ≡ marked rows i j ⌝ }
+{
+    let mut more = rows;
+    more[i] = with_bit(rows[i], j);
+    more
+}
+
+// The rows with what a pair record forbids: one way, or for a precedence both.
+fn forbid(rows: [u64; 64], ids: &[u32], known: usize, fields: &[u8]) -> [u64; 64]
+    requires { ⌜ (known ≤ length (now ids)) × Rising (now ids) known ⌝ }
+    requires { ⌜ (placeAmong (now ids) known (numberOf (now fields)) < 64) × (placeAmong (now ids) known (secondOf (now fields)) < 64) ⌝ }
+    ensures { λ r. ⌜ r ≡ withPair rows (sortOf (now (fields .entry))) (placeAmong (now (ids .entry)) known (numberOf (now (fields .entry)))) (placeAmong (now (ids .entry)) known (secondOf (now (fields .entry)))) ⌝ }
+{
+    let first = place_of(ids, known, two_bytes(fields, 2));
+    let second = place_of(ids, known, two_bytes(fields, 4));
+    let one_way = mark(rows, first, second);
+    if byte_at(fields, 1) == 1 {
+        return mark(one_way, second, first);
+    }
+    one_way
+}
+
+// The forbidden pairs of an accepted table: cell j of row i is set where a pair forbids that the task at place i is preempted by the one at place j.
+pub fn read_barred(image: &[u8], tasks: Tasks) -> [u64; 64]
+    requires { ⌜ accepted (tableVerdict (now image)) ≡ true ⌝ }
+    requires { ⌜ TasksRead (records (now image)) tasks ⌝ }
+    ensures { λ r. ⌜ r ≡ barredMap (records (now (image .entry))) ⌝ }
+{
+    let known = tasks.count;
+    let ids = tasks.ids;
+    let first = count_kind(image, 1) + known;
+    let count = count_kind(image, 3);
+    let mut rows = [0u64; 64];
+    let mut k: usize = 0;
+    while k < count {
+        let fields = record_at(image, first + k);
+        let more = forbid(rows, &ids, known, fields);
+        rows = more;
+        k += 1;
+    }
+    rows
+}

@@ -1,0 +1,51 @@
+// Equations (7) and (8) of the paper, for two tasks.
+ghost use mathlib.Core.Path.{_≡_};
+ghost use mathlib.Core.Bool.{_||_};
+ghost use Prim.Native.Nat.{_-_};
+ghost use Rattle.rules.specs.Preempt.{distance as Preempt·distance, timing as Preempt·timing, mayPreempt};
+use rules::Task;
+
+// The difference of two numbers, or 0 where the second is larger.
+fn excess(a: u32, b: u32) -> u32
+    ensures { λ r. ⌜ r ≡ a - b ⌝ }
+{
+    if a < b { 0 } else { a - b }
+}
+
+// The distance from the more urgent task's offset to the less urgent one's, by equation (7).
+pub fn distance(period: u32, lower: u32, upper: u32) -> u32
+    ensures { λ r. ⌜ r ≡ Preempt·distance period lower upper ⌝ }
+{
+    if period == 0 {
+        return lower;
+    }
+    let shifted = lower as u64 + excess(period, upper) as u64;
+    (shifted % period as u64) as u32
+}
+
+// Whether the activations of two tasks allow a preemption: different transactions, a jitter or a response that reaches far enough.
+fn is_timely(period: u32, low: Task, high: Task) -> bool
+    ensures { λ r. ⌜ r ≡ Preempt·timing period low high ⌝ }
+{
+    if low.transaction != high.transaction {
+        return true;
+    }
+    let apart = distance(period, low.offset, high.offset);
+    if apart < high.jitter {
+        return true;
+    }
+    excess(period, apart) < excess(low.response, low.offset)
+}
+
+// Whether the first task may be preempted by the second, by equation (8).
+pub fn may_preempt(period: u32, barred: bool, low: Task, high: Task) -> bool
+    ensures { λ r. ⌜ r ≡ mayPreempt period barred low high ⌝ }
+{
+    if high.priority <= low.priority {
+        return false;
+    }
+    if barred {
+        return false;
+    }
+    is_timely(period, low, high)
+}

@@ -1,0 +1,107 @@
+// The tasks of a table, read once into arrays by their places.
+ghost use mathlib.Core.Path.{_≡_};
+ghost use mathlib.Core.Bool.{true};
+ghost use Prim.Native.Nat.{_≤_};
+ghost use lib.ListN.{length};
+ghost use Rattle.rules.specs.Blocks.{records};
+ghost use Rattle.rules.specs.Records.{jitterOf, taskOf, transactions, periodIn};
+ghost use Rattle.rules.specs.Refusals.{accepted, tableVerdict};
+ghost use Rattle.preempt.specs.Tasks.{TasksRead};
+use image::bytes::four_bytes;
+use image::bytes::two_bytes;
+use image::records::record_at;
+use rules::Task;
+use table::count::count_kind;
+
+// Each field of the tasks by their places, and the period of each task's transaction; 0 beyond the tasks.
+pub struct Tasks {
+    pub count: usize,
+    pub ids: [u32; 64],
+    pub transactions: [u32; 64],
+    pub priorities: [u32; 64],
+    pub offsets: [u32; 64],
+    pub jitters: [u32; 64],
+    pub responses: [u32; 64],
+    pub sizes: [u32; 64],
+    pub periods: [u32; 64],
+}
+
+// A jitter, where one that is missing is read as 0.
+fn jitter_of(jitter: u32) -> u32
+    ensures { λ r. ⌜ r ≡ jitterOf jitter ⌝ }
+{
+    if jitter == 4_294_967_295 { 0 } else { jitter }
+}
+
+// What a task record says.
+pub fn task_of(fields: &[u8]) -> Task
+    ensures { λ r. ⌜ r ≡ taskOf (now (fields .entry)) ⌝ }
+{
+    Task {
+        id: two_bytes(fields, 2),
+        transaction: two_bytes(fields, 4),
+        priority: two_bytes(fields, 6),
+        offset: four_bytes(fields, 8),
+        jitter: jitter_of(four_bytes(fields, 12)),
+        response: four_bytes(fields, 16),
+        size: two_bytes(fields, 20),
+    }
+}
+
+// The period of the transaction with this number, of the count that a table has, or 0 where it is not listed.
+pub fn period_in(image: &[u8], count: usize, number: u32) -> u32
+    requires { ⌜ accepted (tableVerdict (now image)) ≡ true ⌝ }
+    requires { ⌜ count ≡ length (transactions (records (now image))) ⌝ }
+    ensures { λ r. ⌜ r ≡ periodIn (records (now (image .entry))) number ⌝ }
+{
+    let mut k: usize = 0;
+    while k < count {
+        let fields = record_at(image, k);
+        if two_bytes(fields, 2) == number {
+            return four_bytes(fields, 8);
+        }
+        k += 1;
+    }
+    0
+}
+
+// The tasks of an accepted table.
+pub fn read_tasks(image: &[u8]) -> Tasks
+    requires { ⌜ accepted (tableVerdict (now image)) ≡ true ⌝ }
+    ensures { λ r. ⌜ TasksRead (records (now (image .entry))) r ⌝ }
+{
+    let first = count_kind(image, 1);
+    let count = count_kind(image, 2);
+    let mut ids = [0u32; 64];
+    let mut transactions = [0u32; 64];
+    let mut priorities = [0u32; 64];
+    let mut offsets = [0u32; 64];
+    let mut jitters = [0u32; 64];
+    let mut responses = [0u32; 64];
+    let mut sizes = [0u32; 64];
+    let mut periods = [0u32; 64];
+    let mut i: usize = 0;
+    while i < count {
+        let task = task_of(record_at(image, first + i));
+        ids[i] = task.id;
+        transactions[i] = task.transaction;
+        priorities[i] = task.priority;
+        offsets[i] = task.offset;
+        jitters[i] = task.jitter;
+        responses[i] = task.response;
+        sizes[i] = task.size;
+        periods[i] = period_in(image, first, task.transaction);
+        i += 1;
+    }
+    Tasks {
+        count,
+        ids,
+        transactions,
+        priorities,
+        offsets,
+        jitters,
+        responses,
+        sizes,
+        periods,
+    }
+}
