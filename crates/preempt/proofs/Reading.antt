@@ -38,13 +38,14 @@ module _ (rs : List (List ℕ)) (t : Tasks) (rows : List ℕ) (shape : Shape rs)
   task-read : (i : ℕ) → i < taskCount rs → taskIn t i ≡ taskAt rs i
   task-read i h =
       rw (
-      field-at rs (t .ids) (λ i. taskAt rs i .id) shape (read .ids) i h,
-      field-at rs (t .transactions) (λ i. taskAt rs i .transaction) shape (read .transactions) i h,
-      field-at rs (t .priorities) (λ i. taskAt rs i .priority) shape (read .priorities) i h,
-      field-at rs (t .offsets) (λ i. taskAt rs i .offset) shape (read .offsets) i h,
-      field-at rs (t .jitters) (λ i. taskAt rs i .jitter) shape (read .jitters) i h,
-      field-at rs (t .responses) (λ i. taskAt rs i .response) shape (read .responses) i h,
-      field-at rs (t .sizes) (λ i. taskAt rs i .size) shape (read .sizes) i h)
+        field-at rs (t .ids) (λ i. taskAt rs i .id) shape (read .ids) i h,
+        field-at rs (t .transactions) (λ i. taskAt rs i .transaction) shape (read .transactions) i h,
+        field-at rs (t .priorities) (λ i. taskAt rs i .priority) shape (read .priorities) i h,
+        field-at rs (t .offsets) (λ i. taskAt rs i .offset) shape (read .offsets) i h,
+        field-at rs (t .jitters) (λ i. taskAt rs i .jitter) shape (read .jitters) i h,
+        field-at rs (t .responses) (λ i. taskAt rs i .response) shape (read .responses) i h,
+        field-at rs (t .sizes) (λ i. taskAt rs i .size) shape (read .sizes) i h,
+      )
 
   -- a bit of a row is set where the pair of places is barred
   barred-read : (i j : ℕ) → i < taskCount rs → j < taskCount rs → cell rows i j ≡ barred rs (taskAt rs i .id) (taskAt rs j .id)
@@ -58,10 +59,11 @@ module _ (rs : List (List ℕ)) (t : Tasks) (rows : List ℕ) (shape : Shape rs)
   unfolding decidedBy decided
   decided-read i j h l =
       rw (
-      field-at rs (t .periods) (λ i. periodIn rs (taskAt rs i .transaction)) shape (read .periods) i h,
-      barred-read i j h l,
-      task-read i h,
-      task-read j l)
+        field-at rs (t .periods) (λ i. periodIn rs (taskAt rs i .transaction)) shape (read .periods) i h,
+        barred-read i j h l,
+        task-read i h,
+        task-read j l,
+      )
 
   -- and so is the map
   pub map-read : mapFrom (t .count) (decidedBy t rows) ≡ mapOf rs

@@ -39,7 +39,12 @@ pub fn decide(tasks: Tasks, barred: [u64; 64], i: usize, j: usize) -> bool
     requires { ⌜ (i < 64) × (j < 64) ⌝ }
     ensures { λ r. ⌜ r ≡ decidedBy tasks barred i j ⌝ }
 {
-    may_preempt(tasks.periods[i], is_set(barred[i], j), task_at(tasks, i), task_at(tasks, j))
+    may_preempt(
+        tasks.periods[i],
+        is_set(barred[i], j),
+        task_at(tasks, i),
+        task_at(tasks, j),
+    )
 }
 
 // Row i of the map: a bit for each task that may preempt the one at place i.

@@ -4,3 +4,6 @@ pub mod Meeting
 pub mod Opening
 pub mod Extending
 pub mod Inserting
+pub mod Columns
+pub mod Figures
+pub mod Writing

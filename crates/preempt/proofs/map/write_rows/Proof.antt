@@ -2,7 +2,6 @@ use lib.Seq.{take-suc, drop-cons, append-snoc, set-at, length-take-le, take-all}
 use native.Mathlib.Numerals.{add-one}
 use mathlib.Core.List.{[], _∷_}
 use lib.ListN.{getD}
-
 use lib.ListN.{length, take, drop, set, length-set}
 use mathlib.Core.Path.{_≡_, refl, ap, sym, _∙_}
 use mathlib.Core.List.{List, _++_}

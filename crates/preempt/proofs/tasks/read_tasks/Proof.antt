@@ -149,16 +149,19 @@ loop-again : tie.Need-loop-again Inv-loop μ-loop
 loop-again c =
     let image = c .before .before .before .before .before .before .before .before .args .image .now in
     let s = c .before .before .before .before .loop in
-    let here = read (c .before) in
-    (omega arith, omega arith, omega arith,
-    column-filled (s .i) (id-of image) (s .ids) _ (omega arith) (s .inv .3) (ap (λ (t : Task). t .id) here),
-    column-filled (s .i) (transaction-of image) (s .transactions) _ (omega arith) (s .inv .4) (ap (λ (t : Task). t .transaction) here),
-    column-filled (s .i) (priority-of image) (s .priorities) _ (omega arith) (s .inv .5) (ap (λ (t : Task). t .priority) here),
-    column-filled (s .i) (offset-of image) (s .offsets) _ (omega arith) (s .inv .6) (ap (λ (t : Task). t .offset) here),
-    column-filled (s .i) (jitter-of image) (s .jitters) _ (omega arith) (s .inv .7) (ap (λ (t : Task). t .jitter) here),
-    column-filled (s .i) (response-of image) (s .responses) _ (omega arith) (s .inv .8) (ap (λ (t : Task). t .response) here),
-    column-filled (s .i) (size-of image) (s .sizes) _ (omega arith) (s .inv .9) (ap (λ (t : Task). t .size) here),
-    column-filled (s .i) (period-of image) (s .periods) _ (omega arith) (s .inv .10) (c .period-in .ensures ∙ ap (λ (t : Task). periodIn (records image) (t .transaction)) here))
+    let here = read (c .before) in (
+      omega arith,
+      omega arith,
+      omega arith,
+      column-filled (s .i) (id-of image) (s .ids) _ (omega arith) (s .inv .3) (ap (λ (t : Task). t .id) here),
+      column-filled (s .i) (transaction-of image) (s .transactions) _ (omega arith) (s .inv .4) (ap (λ (t : Task). t .transaction) here),
+      column-filled (s .i) (priority-of image) (s .priorities) _ (omega arith) (s .inv .5) (ap (λ (t : Task). t .priority) here),
+      column-filled (s .i) (offset-of image) (s .offsets) _ (omega arith) (s .inv .6) (ap (λ (t : Task). t .offset) here),
+      column-filled (s .i) (jitter-of image) (s .jitters) _ (omega arith) (s .inv .7) (ap (λ (t : Task). t .jitter) here),
+      column-filled (s .i) (response-of image) (s .responses) _ (omega arith) (s .inv .8) (ap (λ (t : Task). t .response) here),
+      column-filled (s .i) (size-of image) (s .sizes) _ (omega arith) (s .inv .9) (ap (λ (t : Task). t .size) here),
+      column-filled (s .i) (period-of image) (s .periods) _ (omega arith) (s .inv .10) (c .period-in .ensures ∙ ap (λ (t : Task). periodIn (records image) (t .transaction)) here),
+    )
 
 returns : tie.Need-returns Inv-loop μ-loop
 returns c =
