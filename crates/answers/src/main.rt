@@ -1,7 +1,11 @@
 // A test program: reads a stream of cases (docs/STREAM.md) from standard input and prints the answer to each.
+mod digest;
+mod maps;
 mod print;
+mod space;
 mod verdicts;
 
+use image::bytes::four_bytes;
 use libc::STDIN_FILENO;
 
 // More cases than any stream of the gate has.
@@ -13,11 +17,13 @@ fn answer_next() -> bool {
     if io::read_full(STDIN_FILENO, &mut header) != 32 {
         return false;
     }
-    let image_bytes = image::bytes::four_bytes(&header, 4) as usize;
+    let image_bytes = four_bytes(&header, 4) as usize;
+    let written_rows = four_bytes(&header, 16) as usize;
     let call = header[0];
     match call {
         b'T' => verdicts::answer(b'T', image_bytes),
         b'P' => verdicts::answer(b'P', image_bytes),
+        b'M' => maps::answer(image_bytes, written_rows),
         _ => false,
     }
 }

@@ -1,16 +1,7 @@
 // The calls that only judge an image: `T` as a table, `P` as a patch.
-ghost use mathlib.Core.Path.{_≡_};
-ghost use lib.ListN.{length};
 use crate::print;
-use libc::STDIN_FILENO;
+use crate::space;
 use rules::Verdict;
-
-// Room for the longest image. The promise gives only the length, which lending it as a slice needs.
-pub fn image_space() -> [u8; 24_576]
-    ensures { λ r. ⌜ 24576 ≡ length r ⌝ }
-{
-    [0; 24_576]
-}
 
 fn verdict_of(call: u8, image: &[u8]) -> Verdict {
     if call == b'T' {
@@ -22,10 +13,7 @@ fn verdict_of(call: u8, image: &[u8]) -> Verdict {
 
 // Reads the image into the space and prints its verdict, or says that the stream is broken.
 fn answer_in(call: u8, image_bytes: usize, space: &mut [u8]) -> bool {
-    if space.len() < image_bytes {
-        return false;
-    }
-    if io::read_full(STDIN_FILENO, &mut space[..image_bytes]) != image_bytes {
+    if !space::fill(space, image_bytes) {
         return false;
     }
     let verdict = verdict_of(call, &space[..image_bytes]);
@@ -38,6 +26,6 @@ fn answer_in(call: u8, image_bytes: usize, space: &mut [u8]) -> bool {
 
 // Answers one case, or says that the stream is broken.
 pub fn answer(call: u8, image_bytes: usize) -> bool {
-    let mut space = image_space();
+    let mut space = space::image();
     answer_in(call, image_bytes, &mut space)
 }

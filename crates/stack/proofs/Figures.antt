@@ -1,12 +1,11 @@
 -- From what is found over rows, sizes and places to the figures of the table and its map.
-use Prim.Native.Nat.{ℕ, _≤_, _<_}
+use Prim.Native.Nat.{ℕ, _<_}
 use mathlib.Core.List.{List, [], _∷_, map}
 use mathlib.Core.Bool.{Bool, true, _&&_}
 use mathlib.Core.Path.{_≡_, refl, sym, ap, subst, fun-ext, _∙_}
-use native.Mathlib.Omega.{arith}
 use borrow.Author.Tests.{lt-ltb}
 use lib.ListN.{length, getD}
-use lib.Dec.{T, ltb, eqb}
+use lib.Dec.{ltb, eqb}
 use Rattle.rules.specs.Records.{numberOf, transactions, taskCount, taskAt}
 use Rattle.rules.specs.Preempt.{cell}
 use Rattle.rules.proofs.Table.Shape.{Shape}
@@ -17,7 +16,7 @@ use Rattle.stack.specs.Figures.{ownTask, OwnPaths}
 use Rattle.stack.proofs.Columns.{field-total}
 use Rattle.rules.specs.Chains.{weight, Chain, Path, All, Before, Largest, Heaviest, related, sizeAt, idAt, priorityAt, inTransaction, TransactionBound}
 use Rattle.rules.specs.Chains.Before.{less, later, shorter}
-use Rattle.rules.proofs.FourBounds.Order.{T-true, true-T, both, both-pass}
+use Rattle.rules.proofs.FourBounds.Order.{T-true, true-T}
 use Rattle.stack.specs.Places.{has, Below}
 
 -- every place of the list is below n

@@ -1,11 +1,7 @@
 use Prim.Native.Nat.{_≤_}
-use native.Mathlib.Omega.{arith}
 use borrow.Author.Needs.{needs}
 use Rattle.answers.proofs.main.Statement.{statement}
 use Rattle.answers.proofs.main.Tie as tie
-use Rattle.answers.proofs.main.Reads as reads
-use Rattle.answers.proofs.main.Lts as lts
-use Rattle.answers.proofs.answer_next.Reads as answer-next-reads
 
 abbrev Inv-loop : tie.InvT-loop
 Inv-loop left₀ left = left ≤ 10000000

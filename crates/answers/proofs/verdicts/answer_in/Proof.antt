@@ -1,44 +1,24 @@
 use mathlib.Core.Path.{sym}
-use lib.ListN.{length-take, length-append, length-drop}
+use borrow.Author.Tests.{not-false}
 use lib.Seq.{length-take-le}
-use native.Mathlib.Omega.{arith}
 use borrow.Author.Needs.{needs}
 use Rattle.answers.proofs.verdicts.answer_in.Statement.{statement}
 use Rattle.answers.proofs.verdicts.answer_in.Tie as tie
-use Rattle.answers.proofs.verdicts.answer_in.Reads as reads
-use Rattle.answers.proofs.verdicts.answer_in.Lts as lts
-use Rattle.answers.proofs.print.letter.Reads as letter-reads
-use Rattle.answers.proofs.print.line_end.Reads as line-end-reads
-use Rattle.answers.proofs.print.number.Reads as number-reads
-use Rattle.answers.proofs.verdicts.verdict_of.Reads as verdict-of-reads
-use Rattle.io.proofs.read_full.Reads as read-full-reads
 
-returns : tie.Need-returns
-returns c = search needs
-
-slice-relend-prefix-read-full : tie.Need-slice-relend-prefix-read-full
-slice-relend-prefix-read-full c = search needs
-
-slice-aggregate-read-full : tie.Need-slice-aggregate-read-full
-slice-aggregate-read-full c = sym (length-take-le (c .before .before .before .args .image-bytes) (c .before .before .before .args .space .now) (c .before .if1 .left))
-
-read-full-requires : tie.Need-read-full-requires
-read-full-requires c κs = search needs
+fill-requires : tie.Need-fill-requires
+fill-requires c κs = search needs
 
 same-length : tie.Need-same-length
 same-length c = search needs
 
-returns-2 : tie.Need-returns-2
-returns-2 c = search needs
+returns : tie.Need-returns
+returns c = search needs
 
 slice-reshare-prefix-verdict-of : tie.Need-slice-reshare-prefix-verdict-of
-slice-reshare-prefix-verdict-of c = search needs
+slice-reshare-prefix-verdict-of c = c .before .before .before .fill .ensures (not-false (c .before .before .before .fill .result) (c .if1 .left))
 
 slice-aggregate-verdict-of : tie.Need-slice-aggregate-verdict-of
-slice-aggregate-verdict-of c =
-    let a = c .before .before .before .before .before .before .before .before .args in
-    let room = length-take-le (a .image-bytes) (a .space .now) (c .before .before .before .before .before .before .if1 .left) in
-    simp (length-take, length-append, length-drop) (omega (arith, c .before .before .before .before .read-full .kept .1 .0, c .before .before .before .before .before .before .if1 .left))
+slice-aggregate-verdict-of c = sym (length-take-le (c .before .before .before .before .before .before .before .args .image-bytes) (c .before .before .before .before .fill .last .0) (c .before .before .before .before .fill .ensures (not-false (c .before .before .before .before .fill .result) (c .before .if1 .left))))
 
 verdict-of-requires : tie.Need-verdict-of-requires
 verdict-of-requires c κs = search needs
@@ -64,19 +44,16 @@ line-end-requires c κs = search needs
 same-length-2 : tie.Need-same-length-2
 same-length-2 c = search needs
 
-returns-3 : tie.Need-returns-3
-returns-3 c = search needs
+returns-2 : tie.Need-returns-2
+returns-2 c = search needs
 
 pub answer-in-spec : {M : Type 1} → statement M
 answer-in-spec =
     tie.close
     (tie.spec
-    returns
-    slice-relend-prefix-read-full
-    slice-aggregate-read-full
-    read-full-requires
+    fill-requires
     same-length
-    returns-2
+    returns
     slice-reshare-prefix-verdict-of
     slice-aggregate-verdict-of
     verdict-of-requires
@@ -87,4 +64,4 @@ answer-in-spec =
     number-requires-2
     line-end-requires
     same-length-2
-    returns-3)
+    returns-2)

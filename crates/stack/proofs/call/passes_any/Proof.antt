@@ -1,10 +1,7 @@
 use borrow.Author.Tests.{lt-ltb, le-ltb}
-use native.Mathlib.Omega.{arith}
 use borrow.Author.Needs.{needs}
 use Rattle.stack.proofs.call.passes_any.Statement.{statement}
 use Rattle.stack.proofs.call.passes_any.Tie as tie
-use Rattle.stack.proofs.call.passes_any.Reads as reads
-use Rattle.stack.proofs.call.passes_any.Lts as lts
 
 cast-if1 : tie.Need-cast-if1
 cast-if1 c = search needs

@@ -2,7 +2,7 @@ use mathlib.Core.List.{List}
 use lib.ListN.{set}
 use Prim.Native.Nat.{ℕ, _-_, _≤_}
 use mathlib.Core.List.{map}
-use mathlib.Core.Path.{_≡_, refl, sym, ap, _∙_}
+use mathlib.Core.Path.{_≡_, ap, _∙_}
 use lib.ListN.{length, getD, take, length-set}
 use Rattle.rules.specs.Calls.{over}
 use Rattle.stack.proofs.Writing.{mapped-next}
@@ -10,9 +10,6 @@ use native.Mathlib.Omega.{arith}
 use borrow.Author.Needs.{needs}
 use Rattle.stack.proofs.call.write_ids.Statement.{statement}
 use Rattle.stack.proofs.call.write_ids.Tie as tie
-use Rattle.stack.proofs.call.write_ids.Reads as reads
-use Rattle.stack.proofs.call.write_ids.Lts as lts
-use Rattle.stack.proofs.places.wide.Reads as wide-reads
 
 abbrev Inv-loop : tie.InvT-loop
 Inv-loop count numbers ids₀ places k₀ ids k = (k ≤ count) × (length ids ≡ length ids₀) × (ids ≡ over (map (λ i. getD numbers i 0) (take k places)) ids₀)
