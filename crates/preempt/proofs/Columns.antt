@@ -1,14 +1,13 @@
 -- Laws of columns: 64 numbers, filled from the front.
 use Prim.Native.Nat.{ℕ, _+_, _≤_, _<_}
 use mathlib.Core.List.{List}
-use mathlib.Core.Bool.{true, false, cond}
+use mathlib.Core.Bool.{cond}
 use mathlib.Core.Path.{_≡_, sym, _∙_}
 use native.Mathlib.Omega.{arith}
 use borrow.Author.Tests.{lt-ltb, le-ltb, ltb-true, ltb-false, eqb-true, eqb-false}
 use lib.ListN.{length, getD, set, replicate, length-set, length-replicate, getD-replicate}
 use lib.Seq.{ext-getD, getD-set-same, getD-set-other}
 use lib.Dec.{ltb, eqb}
-use Rattle.rules.specs.Numbers.{upTo}
 use Rattle.rules.proofs.Numbers.{either, length-upTo, getD-upTo, upTo-ext}
 use Rattle.preempt.specs.Bits.{column}
 

@@ -5,3 +5,4 @@ pub mod Accepted
 pub mod Pairs
 pub mod Reading
 pub mod Calls
+pub mod Paper

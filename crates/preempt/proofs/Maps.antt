@@ -1,20 +1,19 @@
 -- Laws of maps: their cells are the test they are made from, and one more cell may be set.
-use Prim.Native.Nat.{ℕ, _+_, _^_, _≤_, _<_}
+use Prim.Native.Nat.{ℕ, _^_, _≤_, _<_}
 use mathlib.Core.List.{List}
 use mathlib.Core.Bool.{Bool, true, false, cond, _&&_, _||_}
 use mathlib.Core.Path.{_≡_, refl, ap, sym, _∙_}
 use native.Mathlib.Omega.{arith}
-use borrow.Author.Tests.{lt-ltb, ltb-true, ltb-false, eq-eqb, ne-eqb}
+use borrow.Author.Tests.{lt-ltb, le-ltb, ltb-true, ltb-false, eq-eqb, ne-eqb}
 use lib.Bits.{bitOr, or-lt}
 use lib.Dec.{ltb, eqb}
-use lib.ListN.{length, getD, set, replicate}
-use lib.Pow.{pow-lt}
-use Rattle.rules.specs.Numbers.{sumTo}
+use lib.ListN.{length, getD, set, replicate, List·getD-eq-default}
+use lib.Pow.{pow-lt, pow-mono}
 use Rattle.rules.specs.Preempt.{cell, rowFrom, mapFrom}
 use Rattle.rules.proofs.Numbers.{either, sumTo-ext}
 use Rattle.preempt.specs.Bits.{bitAt, bitsTo, column, marked, withPair}
-use Rattle.preempt.proofs.Columns.{column-length, column-at, column-ext, column-zero, column-set}
-use Rattle.preempt.proofs.SingleBits.{bit-of-power, bit-or, bits-at, bits-small, bits-none, bits-made}
+use Rattle.preempt.proofs.Columns.{column-length, column-at, column-beyond, column-ext, column-zero, column-set}
+use Rattle.preempt.proofs.SingleBits.{bit-of-power, bit-or, bit-lacks, bits-at, bits-end, bits-small, bits-none, bits-made}
 
 -- the bits of a row
 abbrev pub rowTest : ℕ → (ℕ → Bool) → ℕ → Bool
@@ -39,6 +38,20 @@ cell-of-map n test i j most h l =
     ap (λ (row : ℕ). bitAt row j) (map-row n test i most h)
     ∙ bits-at (rowTest n (test i)) 64 j (omega arith)
     ∙ rw (lt-ltb j n l)
+
+-- rows beyond the tasks are 0, and so are cells beyond them
+pub row-beyond : (n : ℕ) (test : ℕ → ℕ → Bool) (i : ℕ) → n ≤ i → getD (mapFrom n test) i 0 ≡ 0
+row-beyond n test i past =
+    either (ltb i 64)
+    (λ t.
+    ap (λ (l : List ℕ). getD l i 0) (map-column n test) ∙ column-beyond n (λ i. rowFrom n (test i)) i past (ltb-true i 64 t))
+    (λ t. List·getD-eq-default (mapFrom n test) 0 (omega (arith, map-length n test, ltb-false i 64 t)))
+
+pub cell-beyond : (n : ℕ) (test : ℕ → ℕ → Bool) (i j : ℕ) → n ≤ 64 → i < n → n ≤ j → cell (mapFrom n test) i j ≡ false
+cell-beyond n test i j most h past =
+    let row : getD (mapFrom n test) i 0 ≡ bitsTo (rowTest n (test i)) n = map-row n test i most h ∙ bits-end (rowTest n (test i)) n 64 most (λ k l. rw (le-ltb k n l)) in
+    let small : bitsTo (rowTest n (test i)) n < 2 ^ j = omega (arith, bits-small (rowTest n (test i)) n, pow-mono past) in
+    ap (λ (r : ℕ). bitAt r j) row ∙ bit-lacks (bitsTo (rowTest n (test i)) n) j small
 
 -- rows from tests that agree below n are equal, and so are maps
 pub row-ext : (n : ℕ) (test other : ℕ → Bool) → ((j : ℕ) → j < n → test j ≡ other j) → rowFrom n test ≡ rowFrom n other

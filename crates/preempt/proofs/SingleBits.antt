@@ -2,12 +2,11 @@
 use Prim.Native.Nat.{ℕ, zero, suc, _+_, _*_, _-_, _/_, _%_, _^_, _≤_, _<_, max}
 use mathlib.Core.Bool.{Bool, true, false, cond, _||_}
 use mathlib.Core.Path.{_≡_, refl, ap, sym, _∙_}
-use native.Mathlib.Numerals.{add-one}
 use native.Mathlib.Nat.{pow-suc, div-eq-of-lt, add-mul-div-right, add-zero, zero-add}
 use native.Mathlib.Omega.{arith}
 use borrow.Author.Tests.{ltb-true, ltb-false, eq-eqb, ne-eqb, eqb-true, eqb-false}
 use lib.Bits.{bitOr, or-shr, or-step}
-use lib.Pow.{pow-pos, pow-mono, pow-add, pow-lt, high, shl-shr}
+use lib.Pow.{pow-pos, pow-mono, pow-add, pow-lt, high}
 use lib.Dec.{ltb, eqb}
 use Rattle.rules.specs.Numbers.{sumTo}
 use Rattle.rules.proofs.Numbers.{either, sumTo-step, sumTo-zero, sumTo-ext}

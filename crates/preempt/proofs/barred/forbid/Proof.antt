@@ -1,20 +1,15 @@
-use Rattle.preempt.specs.Bits.{marked}
-use Rattle.table.specs.Numbers.{placeAmong}
-use Rattle.rules.specs.Records.{numberOf, secondOf}
-use borrow.Author.Tests.{eq-eqb, ne-eqb}
-use mathlib.Core.Path.{_≡_, ap, sym, _∙_}
+-- The two places are those of the ids that the record names; the second bit is set for a precedence alone.
+use Prim.Native.Nat.{ℕ}
+use mathlib.Core.Path.{_≡_, ap, _∙_}
 use mathlib.Core.List.{List}
-use Prim.Native.Nat.{ℕ, _<_}
 use native.Mathlib.Omega.{arith}
+use borrow.Author.Tests.{eq-eqb, ne-eqb}
 use borrow.Author.Needs.{needs}
+use Rattle.rules.specs.Records.{numberOf, secondOf}
+use Rattle.table.specs.Numbers.{placeAmong}
+use Rattle.preempt.specs.Bits.{marked}
 use Rattle.preempt.proofs.barred.forbid.Statement.{statement}
 use Rattle.preempt.proofs.barred.forbid.Tie as tie
-use Rattle.preempt.proofs.barred.forbid.Reads as reads
-use Rattle.preempt.proofs.barred.forbid.Lts as lts
-use Rattle.image.proofs.bytes.byte_at.Reads as byte-at-reads
-use Rattle.image.proofs.bytes.two_bytes.Reads as two-bytes-reads
-use Rattle.preempt.proofs.barred.mark.Reads as mark-reads
-use Rattle.table.proofs.place.place_of.Reads as place-of-reads
 
 first-place : (c : tie.After-place-of2) → c .before .before .place-of .result ≡ placeAmong (c .before .before .before .before .before .before .args .ids .now) (c .before .before .before .before .before .before .args .known) (numberOf (c .before .before .before .before .before .before .args .fields .now))
 first-place c = c .before .before .place-of .ensures ∙ ap (placeAmong (c .before .before .before .before .before .before .args .ids .now) (c .before .before .before .before .before .before .args .known)) (c .before .before .before .two-bytes .ensures .0)

@@ -1,13 +1,10 @@
-use lib.ListN.{set}
+-- What with_bit answers is put in.
 use Prim.Native.Nat.{ℕ}
 use mathlib.Core.Path.{ap}
-use native.Mathlib.Omega.{arith}
 use borrow.Author.Needs.{needs}
+use lib.ListN.{set}
 use Rattle.preempt.proofs.barred.mark.Statement.{statement}
 use Rattle.preempt.proofs.barred.mark.Tie as tie
-use Rattle.preempt.proofs.barred.mark.Reads as reads
-use Rattle.preempt.proofs.barred.mark.Lts as lts
-use Rattle.preempt.proofs.bits.with_bit.Reads as with-bit-reads
 
 mul-with-bit : tie.Need-mul-with-bit
 mul-with-bit c = search needs

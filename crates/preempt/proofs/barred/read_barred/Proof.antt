@@ -1,31 +1,25 @@
-use Rattle.preempt.proofs.Reading.{ids-directory}
-use Rattle.preempt.proofs.Pairs.{first-below, second-below}
-use Rattle.preempt.proofs.Accepted.{shape, names-listed, pair-record}
-use Rattle.preempt.specs.Bits.{withPair}
-use Rattle.table.proofs.Places.{place-in}
-use Rattle.table.specs.Numbers.{Directory, placeAmong}
-use Rattle.rules.proofs.Table.Shape.{Shape}
-use Rattle.rules.specs.Records.{numberOf, secondOf, sortOf, placeOf}
-use Rattle.rules.specs.Blocks.{recordAt}
-use mathlib.Core.Path.{subst}
-use Rattle.preempt.proofs.Pairs.{barredTo, none-barred, all-barred, pair-marked}
-use Rattle.preempt.proofs.Maps.{map-none}
-use Rattle.rules.specs.Preempt.{mapFrom}
-use Rattle.rules.specs.Records.{transactions, pairs, tasks, taskCount}
-use Rattle.rules.specs.Blocks.{records}
-use lib.ListN.{length, getD}
-use mathlib.Core.Path.{_≡_, ap, sym, _∙_}
-use mathlib.Core.List.{List, []}
+-- The loop keeps the map of what the pairs passed forbid; each pair adds its bits.
 use Prim.Native.Nat.{ℕ, _+_, _-_, _≤_, _<_}
+use mathlib.Core.Path.{_≡_, ap, _∙_}
+use mathlib.Core.List.{List, []}
 use native.Mathlib.Omega.{arith}
 use borrow.Author.Needs.{needs}
+use lib.ListN.{length, getD}
+use Rattle.rules.specs.Records.{numberOf, secondOf, sortOf, placeOf, transactions, pairs, tasks, taskCount}
+use Rattle.rules.specs.Blocks.{recordAt, records}
+use Rattle.rules.specs.Preempt.{mapFrom}
+use Rattle.rules.proofs.Table.Shape.{Shape}
+use Rattle.rules.proofs.Table.Listed.{Listed}
+use Rattle.table.specs.Numbers.{Directory, placeAmong}
+use Rattle.table.proofs.Places.{place-in}
+use Rattle.preempt.specs.Bits.{withPair}
+use Rattle.preempt.specs.declared.tasks.Tasks.{Tasks}
+use Rattle.preempt.proofs.Reading.{ids-directory}
+use Rattle.preempt.proofs.Pairs.{first-below, second-below, barredTo, none-barred, all-barred, pair-marked}
+use Rattle.preempt.proofs.Accepted.{shape, names-listed, pair-record}
+use Rattle.preempt.proofs.Maps.{map-none}
 use Rattle.preempt.proofs.barred.read_barred.Statement.{statement}
 use Rattle.preempt.proofs.barred.read_barred.Tie as tie
-use Rattle.preempt.proofs.barred.read_barred.Reads as reads
-use Rattle.preempt.proofs.barred.read_barred.Lts as lts
-use Rattle.image.proofs.records.record_at.Reads as record-at-reads
-use Rattle.preempt.proofs.barred.forbid.Reads as forbid-reads
-use Rattle.table.proofs.count.count_kind.Reads as count-kind-reads
 
 abbrev Inv-loop : tie.InvT-loop
 Inv-loop image known ids first count rows₀ k₀ rows k = (k ≤ count) × (first ≤ 80) × (count ≤ 256) × (rows ≡ mapFrom (taskCount (records image)) (barredTo (records image) k))
@@ -37,25 +31,49 @@ abbrev μ-loop : tie.MeasureT-loop
 shaped : (c : tie.After-count-kind Inv-loop μ-loop) → Shape (records (c .before .before .before .args .image .now))
 shaped c = shape (c .before .before .before .args .image .now) (c .before .before .shared-slice-known .given) (c .before .before .before .pre .0)
 
--- the record that was read is pair k
-pair-read : (c : tie.After-record-at Inv-loop μ-loop) → c .record-at .result .now ≡ getD (pairs (records (c .before .before .before .before .before .before .before .args .image .now))) (c .before .before .loop .k) []
+-- where the record of pair k has been read: the image, its records, and the tasks
+abbrev image-of : tie.After-record-at Inv-loop μ-loop → List ℕ
+image-of c = c .before .before .before .before .before .before .before .args .image .now
+
+abbrev records-of : tie.After-record-at Inv-loop μ-loop → List (List ℕ)
+records-of c = records (image-of c)
+
+abbrev tasks-of : tie.After-record-at Inv-loop μ-loop → Tasks
+tasks-of c = c .before .before .before .before .before .before .before .args .tasks
+
+-- there is such a pair
+inside : (c : tie.After-record-at Inv-loop μ-loop) → c .before .before .loop .k < length (pairs (records-of c))
+inside c = omega (arith, c .before .before .before .count-kind2 .ensures .0)
+
+-- the record is that pair
+pair-read : (c : tie.After-record-at Inv-loop μ-loop) → c .record-at .result .now ≡ getD (pairs (records-of c)) (c .before .before .loop .k) []
 pair-read c =
     let start = c .before .before .before .before .before .before .before in
     let k = c .before .before .loop .k in
-    let image = start .args .image .now in
-    let place : (c .before .before .before .before .count-kind .result + start .args .tasks .count) + k ≡ length (transactions (records image)) + taskCount (records image) + k = omega (arith, c .before .before .before .before .count-kind .ensures .0, start .pre .1 .count) in
-    c .record-at .ensures ∙ ap (recordAt image) place ∙ pair-record image (c .before .before .before .before .before .before .shared-slice-known .given) (start .pre .0) k (omega (arith, c .before .before .before .count-kind2 .ensures .0))
+    let at : (c .before .before .before .before .count-kind .result + tasks-of c .count) + k ≡ length (transactions (records-of c)) + taskCount (records-of c) + k = omega (arith, c .before .before .before .before .count-kind .ensures .0, start .pre .1 .count) in
+    c .record-at .ensures
+    ∙ ap (recordAt (image-of c)) at
+    ∙ pair-record (image-of c) (c .before .before .before .before .before .before .shared-slice-known .given) (start .pre .0) k (inside c)
 
--- the places of its tasks
+-- what it names is listed
+named : (c : tie.After-record-at Inv-loop μ-loop) → Listed (records-of c)
+named c =
+    names-listed (image-of c) (c .before .before .before .before .before .before .shared-slice-known .given)
+    (c .before .before .before .before .before .before .before .pre .0)
+
+-- the ids lead to the places of the tasks
+directory : (c : tie.After-record-at Inv-loop μ-loop) → Directory (tasks (records-of c)) (tasks-of c .ids) (tasks-of c .count)
+directory c =
+    ids-directory (records-of c) (tasks-of c) (shaped (c .before .before .before .before))
+    (c .before .before .before .before .before .before .before .pre .1)
+
+-- such as those of the two tasks that the pair names
 place : (c : tie.After-record-at Inv-loop μ-loop) (name : List ℕ → ℕ)
-    → placeAmong (c .before .before .before .before .before .before .before .args .tasks .ids) (c .before .before .before .before .before .before .before .args .tasks .count) (name (c .record-at .result .now))
-    ≡ placeOf (tasks (records (c .before .before .before .before .before .before .before .args .image .now))) (name (getD (pairs (records (c .before .before .before .before .before .before .before .args .image .now))) (c .before .before .loop .k) []))
+    → placeAmong (tasks-of c .ids) (tasks-of c .count) (name (c .record-at .result .now))
+    ≡ placeOf (tasks (records-of c)) (name (getD (pairs (records-of c)) (c .before .before .loop .k) []))
 place c name =
-    let start = c .before .before .before .before .before .before .before in
-    let rs = records (start .args .image .now) in
-    let ids = start .args .tasks .ids in
-    let count = start .args .tasks .count in
-    ap (λ (r : List ℕ). placeAmong ids count (name r)) (pair-read c) ∙ place-in (tasks rs) ids count (ids-directory rs (start .args .tasks) (shaped (c .before .before .before .before)) (start .pre .1)) (name (getD (pairs rs) (c .before .before .loop .k) []))
+    ap (λ (r : List ℕ). placeAmong (tasks-of c .ids) (tasks-of c .count) (name r)) (pair-read c)
+    ∙ place-in (tasks (records-of c)) (tasks-of c .ids) (tasks-of c .count) (directory c) (name (getD (pairs (records-of c)) (c .before .before .loop .k) []))
 
 count-kind-requires : tie.Need-count-kind-requires Inv-loop μ-loop
 count-kind-requires c κs = search needs
@@ -83,17 +101,16 @@ slice-aggregate-forbid c = search needs
 
 forbid-requires : tie.Need-forbid-requires Inv-loop μ-loop
 forbid-requires c κs =
-    let start = c .before .before .before .before .before .before .before .before in
-    let image = start .args .image .now in
-    let rs = records image in
-    let s = shaped (c .before .before .before .before .before) in
-    let named = names-listed image (c .before .before .before .before .before .before .before .shared-slice-known .given) (start .pre .0) in
-    let k = c .before .before .before .loop .k in
-    let inside : k < length (pairs rs) = omega (arith, c .before .before .before .before .count-kind2 .ensures .0) in
-    let d = ids-directory rs (start .args .tasks) s (start .pre .1) in
-    let first = place (c .before) numberOf in
-    let second = place (c .before) secondOf in
-    ((d .room, d .rising), (omega (arith, first-below rs s named k inside _ _ first second, s .few-tasks), omega (arith, second-below rs s named k inside _ _ first second, s .few-tasks)))
+    let read = c .before in
+    let s = shaped (read .before .before .before .before) in
+    let first = place read numberOf in
+    let second = place read secondOf in (
+      (directory read .room, directory read .rising),
+      (
+        omega (arith, first-below (records-of read) s (named read) (read .before .before .loop .k) (inside read) _ _ first second, s .few-tasks),
+        omega (arith, second-below (records-of read) s (named read) (read .before .before .loop .k) (inside read) _ _ first second, s .few-tasks),
+      ),
+    )
 
 add-k : tie.Need-add-k Inv-loop μ-loop
 add-k c = search needs
@@ -103,16 +120,18 @@ loop-less c = search needs
 
 loop-again : tie.Need-loop-again Inv-loop μ-loop
 loop-again c =
-    let start = c .before .before .before .before .before .before .before .before .before in
-    let image = start .args .image .now in
-    let rs = records image in
-    let s = shaped (c .before .before .before .before .before .before) in
-    let named = names-listed image (c .before .before .before .before .before .before .before .before .shared-slice-known .given) (start .pre .0) in
-    let k = c .before .before .before .before .loop .k in
-    let inside : k < length (pairs rs) = omega (arith, c .before .before .before .before .before .count-kind2 .ensures .0) in
-    let first = place (c .before .before) numberOf in
-    let second = place (c .before .before) secondOf in
-    (omega arith, omega arith, omega arith, c .forbid .ensures ∙ rw (pair-read (c .before .before), c .before .before .before .before .loop .inv .3) (pair-marked rs s named k inside _ _ (rw (pair-read (c .before .before)) at first) (rw (pair-read (c .before .before)) at second)))
+    let read = c .before .before in
+    let first = placeAmong (tasks-of read .ids) (tasks-of read .count) (numberOf (read .record-at .result .now)) in
+    let second = placeAmong (tasks-of read .ids) (tasks-of read .count) (secondOf (read .record-at .result .now)) in
+    let k = read .before .before .loop .k in (
+      omega arith,
+      omega arith,
+      omega arith,
+      c .forbid .ensures
+          ∙ ap (λ (r : List ℕ). withPair (read .before .before .loop .rows) (sortOf r) first second) (pair-read read)
+          ∙ ap (λ (rows : List ℕ). withPair rows (sortOf (getD (pairs (records-of read)) k [])) first second) (read .before .before .loop .inv .3)
+          ∙ pair-marked (records-of read) (shaped (read .before .before .before .before)) (named read) k (inside read) first second (place read numberOf) (place read secondOf),
+    )
 
 returns : tie.Need-returns Inv-loop μ-loop
 returns c =

@@ -1,12 +1,10 @@
-use lib.Pow.{shl-exact}
-use mathlib.Core.Path.{_≡_, _∙_}
-use Prim.Native.Nat.{_*_, _^_}
+-- A shift by fewer than 64 bits loses nothing of the number 1.
+use mathlib.Core.Path.{_∙_}
 use native.Mathlib.Omega.{arith}
 use borrow.Author.Needs.{needs}
+use lib.Pow.{shl-exact}
 use Rattle.preempt.proofs.bits.power.Statement.{statement}
 use Rattle.preempt.proofs.bits.power.Tie as tie
-use Rattle.preempt.proofs.bits.power.Reads as reads
-use Rattle.preempt.proofs.bits.power.Lts as lts
 
 shl-result : tie.Need-shl-result
 shl-result c = search needs

@@ -1,14 +1,12 @@
-use Rattle.rules.specs.Preempt.{distance}
-use native.Mathlib.Nat.{mod-zero, mod-lt}
+-- With a period of 0 the remainder is the number itself; with any other it is below the period and so fits.
+use Prim.Native.Nat.{ℕ, _+_, _-_, _<_}
 use mathlib.Core.Path.{_≡_, sym, _∙_}
-use Prim.Native.Nat.{ℕ, _+_, _-_, _%_, _<_}
+use native.Mathlib.Nat.{mod-zero, mod-lt}
 use native.Mathlib.Omega.{arith}
 use borrow.Author.Needs.{needs}
+use Rattle.rules.specs.Preempt.{distance}
 use Rattle.preempt.proofs.decide.distance.Statement.{statement}
 use Rattle.preempt.proofs.decide.distance.Tie as tie
-use Rattle.preempt.proofs.decide.distance.Reads as reads
-use Rattle.preempt.proofs.decide.distance.Lts as lts
-use Rattle.preempt.proofs.decide.excess.Reads as excess-reads
 
 -- with a period of 0 the distance is the offset itself
 no-period : (period lower upper : ℕ) → period ≡ 0 → lower ≡ distance period lower upper

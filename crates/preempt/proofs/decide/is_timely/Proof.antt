@@ -1,14 +1,8 @@
-use lib.Dec.{ltb}
-use Prim.Native.Nat.{_-_}
+-- The tests of the timing, one after the other, on what distance and excess answer.
 use borrow.Author.Tests.{eq-eqb, ne-eqb, lt-ltb, le-ltb}
-use native.Mathlib.Omega.{arith}
 use borrow.Author.Needs.{needs}
 use Rattle.preempt.proofs.decide.is_timely.Statement.{statement}
 use Rattle.preempt.proofs.decide.is_timely.Tie as tie
-use Rattle.preempt.proofs.decide.is_timely.Reads as reads
-use Rattle.preempt.proofs.decide.is_timely.Lts as lts
-use Rattle.preempt.proofs.decide.distance.Reads as distance-reads
-use Rattle.preempt.proofs.decide.excess.Reads as excess-reads
 
 returns : tie.Need-returns
 returns c = rw (ne-eqb _ _ (c .if1 .taken))

@@ -1,12 +1,9 @@
-use Rattle.rules.specs.Preempt.{mayPreempt}
+-- The tests of equation (8), one after the other.
 use borrow.Author.Tests.{lt-ltb, le-ltb}
-use native.Mathlib.Omega.{arith}
 use borrow.Author.Needs.{needs}
+use Rattle.rules.specs.Preempt.{mayPreempt}
 use Rattle.preempt.proofs.decide.may_preempt.Statement.{statement}
 use Rattle.preempt.proofs.decide.may_preempt.Tie as tie
-use Rattle.preempt.proofs.decide.may_preempt.Reads as reads
-use Rattle.preempt.proofs.decide.may_preempt.Lts as lts
-use Rattle.preempt.proofs.decide.is_timely.Reads as is-timely-reads
 
 returns : tie.Need-returns
 unfolding mayPreempt

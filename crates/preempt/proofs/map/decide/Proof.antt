@@ -1,14 +1,9 @@
-use mathlib.Core.Path.{_≡_, _∙_}
-use Rattle.preempt.specs.Tasks.{decidedBy}
-use native.Mathlib.Omega.{arith}
+-- What the four calls answer is put together.
+use mathlib.Core.Path.{_∙_}
 use borrow.Author.Needs.{needs}
+use Rattle.preempt.specs.Tasks.{decidedBy}
 use Rattle.preempt.proofs.map.decide.Statement.{statement}
 use Rattle.preempt.proofs.map.decide.Tie as tie
-use Rattle.preempt.proofs.map.decide.Reads as reads
-use Rattle.preempt.proofs.map.decide.Lts as lts
-use Rattle.preempt.proofs.bits.is_set.Reads as is-set-reads
-use Rattle.preempt.proofs.decide.may_preempt.Reads as may-preempt-reads
-use Rattle.preempt.proofs.map.task_at.Reads as task-at-reads
 
 mul-may-preempt : tie.Need-mul-may-preempt
 mul-may-preempt c = search needs

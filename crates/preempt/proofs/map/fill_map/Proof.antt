@@ -1,26 +1,21 @@
+-- One case for each way out: a refused table, too short a map, and a map that is filled.
+use Prim.Native.Nat.{ℕ}
+use mathlib.Core.List.{List}
+use mathlib.Core.Bool.{true, false}
+use mathlib.Core.Path.{_≡_, ap, sym, _∙_}
+use borrow.Author.Tests.{eq-eqb, ne-eqb}
+use borrow.Author.Needs.{needs}
+use lib.ListN.{length}
 use Rattle.rules.specs.Calls.{over}
 use Rattle.rules.specs.Refusals.{accepted, tableVerdict}
 use Rattle.rules.specs.Records.{taskCount}
 use Rattle.rules.specs.Preempt.{decided}
 use Rattle.rules.specs.Blocks.{records}
 use Rattle.rules.specs.declared.Verdict.{Verdict}
-use mathlib.Core.List.{List}
-use lib.ListN.{length}
 use Rattle.preempt.proofs.Maps.{map-length}
 use Rattle.preempt.proofs.Calls.{map-refused, map-short, map-filled}
-use borrow.Author.Tests.{eq-eqb, ne-eqb}
-use mathlib.Core.Bool.{true, false}
-use mathlib.Core.Path.{_≡_, ap, sym, _∙_}
-use Prim.Native.Nat.{ℕ, _≤_}
-use native.Mathlib.Omega.{arith}
-use borrow.Author.Needs.{needs}
 use Rattle.preempt.proofs.map.fill_map.Statement.{statement}
 use Rattle.preempt.proofs.map.fill_map.Tie as tie
-use Rattle.preempt.proofs.map.fill_map.Reads as reads
-use Rattle.preempt.proofs.map.fill_map.Lts as lts
-use Rattle.preempt.proofs.map.table_map.Reads as table-map-reads
-use Rattle.preempt.proofs.map.write_rows.Reads as write-rows-reads
-use Rattle.table.proofs.table_verdict.Reads as table-verdict-reads
 
 -- the table is accepted
 right : (c : tie.Else1) → accepted (tableVerdict (c .before .before .before .before .before .args .image .now)) ≡ true

@@ -1,18 +1,16 @@
-use Rattle.preempt.proofs.Columns.{column-none, column-filled}
+-- The loop keeps the rows filled up to the next place.
+use Prim.Native.Nat.{ℕ, _-_, _≤_}
+use mathlib.Core.Path.{_≡_, ap, _∙_}
+use mathlib.Core.List.{List}
+use native.Mathlib.Omega.{arith}
+use borrow.Author.Needs.{needs}
+use Rattle.rules.specs.Preempt.{rowFrom, mapFrom}
 use Rattle.preempt.specs.declared.tasks.Tasks.{Tasks}
 use Rattle.preempt.specs.Tasks.{decidedBy}
 use Rattle.preempt.specs.Bits.{column}
-use Rattle.rules.specs.Preempt.{rowFrom, mapFrom}
-use mathlib.Core.Path.{_≡_, ap, _∙_}
-use mathlib.Core.List.{List}
-use Prim.Native.Nat.{ℕ, _-_, _≤_, _<_}
-use native.Mathlib.Omega.{arith}
-use borrow.Author.Needs.{needs}
+use Rattle.preempt.proofs.Columns.{column-none, column-filled}
 use Rattle.preempt.proofs.map.map_of.Statement.{statement}
 use Rattle.preempt.proofs.map.map_of.Tie as tie
-use Rattle.preempt.proofs.map.map_of.Reads as reads
-use Rattle.preempt.proofs.map.map_of.Lts as lts
-use Rattle.preempt.proofs.map.row.Reads as row-reads
 
 -- the row of a place
 abbrev row-at : Tasks → List ℕ → ℕ → ℕ

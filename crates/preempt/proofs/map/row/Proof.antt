@@ -1,23 +1,20 @@
-use Rattle.preempt.proofs.SingleBits.{bits-more, bits-same, bits-room, bits-end}
-use Rattle.preempt.specs.declared.tasks.Tasks.{Tasks}
-use Rattle.preempt.specs.Tasks.{decidedBy}
-use Rattle.preempt.specs.Bits.{bitsTo}
-use Rattle.rules.proofs.Numbers.{sumTo-zero}
-use lib.Dec.{ltb}
-use borrow.Author.Tests.{lt-ltb, le-ltb}
-use mathlib.Core.Path.{_≡_, refl, ap, sym, _∙_}
+-- The loop keeps the sum of the powers of the cells passed, which leaves room for the next.
+use Prim.Native.Nat.{ℕ, _-_, _≤_}
+use mathlib.Core.Path.{_≡_, ap, sym, _∙_}
 use mathlib.Core.List.{List}
 use mathlib.Core.Logic.{⊎-elim}
 use mathlib.Core.Bool.{Bool, true, false, _&&_}
-use Prim.Native.Nat.{ℕ, _+_, _-_, _^_, _≤_, _<_}
 use native.Mathlib.Omega.{arith}
+use borrow.Author.Tests.{lt-ltb, le-ltb}
 use borrow.Author.Needs.{needs}
+use lib.Dec.{ltb}
+use Rattle.rules.proofs.Numbers.{sumTo-zero}
+use Rattle.preempt.specs.declared.tasks.Tasks.{Tasks}
+use Rattle.preempt.specs.Tasks.{decidedBy}
+use Rattle.preempt.specs.Bits.{bitsTo}
+use Rattle.preempt.proofs.SingleBits.{bits-more, bits-same, bits-room, bits-end}
 use Rattle.preempt.proofs.map.row.Statement.{statement}
 use Rattle.preempt.proofs.map.row.Tie as tie
-use Rattle.preempt.proofs.map.row.Reads as reads
-use Rattle.preempt.proofs.map.row.Lts as lts
-use Rattle.preempt.proofs.bits.power.Reads as power-reads
-use Rattle.preempt.proofs.map.decide.Reads as decide-reads
 
 -- whether cell j of row i is set
 abbrev is-cell : Tasks → List ℕ → ℕ → ℕ → Bool

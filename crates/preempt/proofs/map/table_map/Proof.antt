@@ -1,17 +1,12 @@
-use Rattle.preempt.proofs.Reading.{map-read}
-use Rattle.preempt.proofs.Accepted.{shape}
-use Rattle.rules.specs.Blocks.{records}
-use mathlib.Core.Path.{_≡_, _∙_}
-use Prim.Native.Nat.{ℕ, _≤_}
+-- The decision from what was read is the decision of the table.
+use mathlib.Core.Path.{_∙_}
 use native.Mathlib.Omega.{arith}
 use borrow.Author.Needs.{needs}
+use Rattle.rules.specs.Blocks.{records}
+use Rattle.preempt.proofs.Reading.{map-read}
+use Rattle.preempt.proofs.Accepted.{shape}
 use Rattle.preempt.proofs.map.table_map.Statement.{statement}
 use Rattle.preempt.proofs.map.table_map.Tie as tie
-use Rattle.preempt.proofs.map.table_map.Reads as reads
-use Rattle.preempt.proofs.map.table_map.Lts as lts
-use Rattle.preempt.proofs.barred.read_barred.Reads as read-barred-reads
-use Rattle.preempt.proofs.map.map_of.Reads as map-of-reads
-use Rattle.preempt.proofs.tasks.read_tasks.Reads as read-tasks-reads
 
 read-tasks-requires : tie.Need-read-tasks-requires
 read-tasks-requires c κs = search needs

@@ -1,17 +1,14 @@
-use lib.Seq.{take-suc, drop-cons, append-snoc, set-at, length-take-le, take-all}
-use native.Mathlib.Numerals.{add-one}
-use mathlib.Core.List.{[], _∷_}
-use lib.ListN.{getD}
-use lib.ListN.{length, take, drop, set, length-set}
-use mathlib.Core.Path.{_≡_, refl, ap, sym, _∙_}
-use mathlib.Core.List.{List, _++_}
+-- The loop keeps that the rows passed are written and the others are as they were.
 use Prim.Native.Nat.{ℕ, suc, _+_, _-_, _≤_, _<_}
+use mathlib.Core.List.{List, _++_}
+use mathlib.Core.Path.{_≡_, refl, _∙_}
+use native.Mathlib.Numerals.{add-one}
 use native.Mathlib.Omega.{arith}
 use borrow.Author.Needs.{needs}
+use lib.Seq.{take-suc, drop-cons, append-snoc, set-at, length-take-le, take-all}
+use lib.ListN.{getD, length, take, drop, set, length-set}
 use Rattle.preempt.proofs.map.write_rows.Statement.{statement}
 use Rattle.preempt.proofs.map.write_rows.Tie as tie
-use Rattle.preempt.proofs.map.write_rows.Reads as reads
-use Rattle.preempt.proofs.map.write_rows.Lts as lts
 
 -- one more number is written over
 next-written : (map rows₀ rows : List ℕ) (i : ℕ) → i < length map → i < length rows₀ → rows ≡ take i map ++ drop i rows₀

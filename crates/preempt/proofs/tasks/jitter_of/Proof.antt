@@ -1,10 +1,7 @@
+-- The one test of a missing jitter.
 use borrow.Author.Tests.{eq-eqb, ne-eqb}
-use native.Mathlib.Omega.{arith}
-use borrow.Author.Needs.{needs}
 use Rattle.preempt.proofs.tasks.jitter_of.Statement.{statement}
 use Rattle.preempt.proofs.tasks.jitter_of.Tie as tie
-use Rattle.preempt.proofs.tasks.jitter_of.Reads as reads
-use Rattle.preempt.proofs.tasks.jitter_of.Lts as lts
 
 returns : tie.Need-returns
 returns c = rw (eq-eqb _ _ (c .if1 .taken))

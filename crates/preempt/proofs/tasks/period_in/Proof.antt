@@ -1,24 +1,20 @@
-use Rattle.preempt.proofs.Accepted.{transaction-record}
-use Rattle.rules.proofs.Numbers.{lowest-zero, lowest-more, lowest-here}
-use Rattle.rules.specs.Records.{numberOf, periodOf, transactions}
-use Rattle.rules.specs.Blocks.{records, recordAt}
-use Rattle.rules.specs.Numbers.{lowest}
-use lib.ListN.{length, getD, List·getD-eq-default}
-use lib.Dec.{eqb}
-use borrow.Author.Tests.{eq-eqb, ne-eqb}
+-- The loop keeps that no transaction passed has the number; the transactions stand at the front of the image.
+use Prim.Native.Nat.{ℕ, _-_, _≤_, _<_}
 use mathlib.Core.Bool.{Bool}
 use mathlib.Core.List.{List, []}
-use mathlib.Core.Path.{_≡_, refl, ap, sym, _∙_}
-use Prim.Native.Nat.{ℕ, _-_, _≤_, _<_}
+use mathlib.Core.Path.{_≡_, ap, sym, _∙_}
 use native.Mathlib.Omega.{arith}
+use borrow.Author.Tests.{eq-eqb, ne-eqb}
 use borrow.Author.Needs.{needs}
+use lib.ListN.{length, getD, List·getD-eq-default}
+use lib.Dec.{eqb}
+use Rattle.rules.specs.Records.{numberOf, periodOf, transactions}
+use Rattle.rules.specs.Blocks.{records}
+use Rattle.rules.specs.Numbers.{lowest}
+use Rattle.rules.proofs.Numbers.{lowest-zero, lowest-more, lowest-here}
+use Rattle.preempt.proofs.Accepted.{transaction-record}
 use Rattle.preempt.proofs.tasks.period_in.Statement.{statement}
 use Rattle.preempt.proofs.tasks.period_in.Tie as tie
-use Rattle.preempt.proofs.tasks.period_in.Reads as reads
-use Rattle.preempt.proofs.tasks.period_in.Lts as lts
-use Rattle.image.proofs.bytes.four_bytes.Reads as four-bytes-reads
-use Rattle.image.proofs.bytes.two_bytes.Reads as two-bytes-reads
-use Rattle.image.proofs.records.record_at.Reads as record-at-reads
 
 -- whether transaction k has the number
 abbrev has : List ℕ → ℕ → ℕ → Bool

@@ -1,23 +1,17 @@
-use Rattle.preempt.proofs.Accepted.{shape, task-record}
-use Rattle.preempt.proofs.Columns.{column-none, column-filled}
-use Rattle.preempt.specs.Bits.{column}
-use Rattle.rules.specs.declared.Task.{Task}
-use Rattle.rules.specs.Records.{transactions as Records·transactions, tasks, taskOf, taskCount, taskAt, periodIn}
-use Rattle.rules.specs.Blocks.{records, recordAt}
-use lib.ListN.{length, getD}
-use mathlib.Core.List.{List, []}
-use mathlib.Core.Path.{_≡_, refl, ap, sym, _∙_}
+-- The loop keeps each array filled up to the next place; the tasks stand behind the transactions.
 use Prim.Native.Nat.{ℕ, _+_, _-_, _≤_, _<_}
+use mathlib.Core.List.{List}
+use mathlib.Core.Path.{_≡_, ap, _∙_}
 use native.Mathlib.Omega.{arith}
 use borrow.Author.Needs.{needs}
+use Rattle.rules.specs.declared.Task.{Task}
+use Rattle.rules.specs.Records.{taskOf, taskCount, taskAt, periodIn}
+use Rattle.rules.specs.Blocks.{records, recordAt}
+use Rattle.preempt.specs.Bits.{column}
+use Rattle.preempt.proofs.Accepted.{shape, task-record}
+use Rattle.preempt.proofs.Columns.{column-none, column-filled}
 use Rattle.preempt.proofs.tasks.read_tasks.Statement.{statement}
 use Rattle.preempt.proofs.tasks.read_tasks.Tie as tie
-use Rattle.preempt.proofs.tasks.read_tasks.Reads as reads
-use Rattle.preempt.proofs.tasks.read_tasks.Lts as lts
-use Rattle.image.proofs.records.record_at.Reads as record-at-reads
-use Rattle.preempt.proofs.tasks.period_in.Reads as period-in-reads
-use Rattle.preempt.proofs.tasks.task_of.Reads as task-of-reads
-use Rattle.table.proofs.count.count_kind.Reads as count-kind-reads
 
 -- the fields of the task at a place, and the period of its transaction
 abbrev id-of : List ℕ → ℕ → ℕ

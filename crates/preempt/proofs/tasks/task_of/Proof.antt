@@ -1,14 +1,9 @@
-use mathlib.Core.Path.{_≡_, ap, _∙_}
-use Rattle.rules.specs.Records.{jitterOf}
-use native.Mathlib.Omega.{arith}
+-- Each field is what the reading of its bytes answers.
+use mathlib.Core.Path.{ap, _∙_}
 use borrow.Author.Needs.{needs}
+use Rattle.rules.specs.Records.{jitterOf}
 use Rattle.preempt.proofs.tasks.task_of.Statement.{statement}
 use Rattle.preempt.proofs.tasks.task_of.Tie as tie
-use Rattle.preempt.proofs.tasks.task_of.Reads as reads
-use Rattle.preempt.proofs.tasks.task_of.Lts as lts
-use Rattle.image.proofs.bytes.four_bytes.Reads as four-bytes-reads
-use Rattle.image.proofs.bytes.two_bytes.Reads as two-bytes-reads
-use Rattle.preempt.proofs.tasks.jitter_of.Reads as jitter-of-reads
 
 two-bytes-requires : tie.Need-two-bytes-requires
 two-bytes-requires c κs = search needs
