@@ -48,10 +48,10 @@ wide-requires : tie.Need-wide-requires Inv-loop μ-loop
 wide-requires c κs = search needs
 
 mul-sum : tie.Need-mul-sum Inv-loop μ-loop
-mul-sum c = omega (arith, product _ _ (c .wide .ensures .1) (c .before .before .loop-test .taken))
+mul-sum c = omega (arith, product (c .wide .result) (c .before .before .before .loop .i) (c .wide .ensures .1) (omega arith))
 
 add-sum-2 : tie.Need-add-sum-2 Inv-loop μ-loop
-add-sum-2 c = omega (arith, product _ _ (c .wide .ensures .1) (c .before .before .loop-test .taken))
+add-sum-2 c = omega (arith, product (c .wide .result) (c .before .before .before .loop .i) (c .wide .ensures .1) (omega arith))
 
 add-i : tie.Need-add-i Inv-loop μ-loop
 add-i c = search needs
@@ -62,7 +62,7 @@ loop-less c = search needs
 loop-again : tie.Need-loop-again Inv-loop μ-loop
 loop-again c =
     let i = c .before .before .before .loop .i in
-    let step = product (c .wide .result) i (c .wide .ensures .1) (c .before .before .loop-test .taken) in
+    let step = product (c .wide .result) i (c .wide .ensures .1) (omega arith) in
     (omega arith, rw (sumTo-step, c .wide .ensures .0, c .before .before .before .loop .inv .1), omega (arith, step))
 
 returns : tie.Need-returns Inv-loop μ-loop

@@ -1,0 +1,55 @@
+use Prim.Native.Nat.{_-_, _<_}
+use lib.ListN.{length}
+use native.Mathlib.Omega.{arith}
+use borrow.Author.Needs.{needs}
+use Rattle.answers.proofs.digest.of_ids.Statement.{statement}
+use Rattle.answers.proofs.digest.of_ids.Tie as tie
+
+abbrev Inv-loop : tie.InvT-loop
+Inv-loop ids sum₀ k₀ sum k = sum < 4294967291
+
+abbrev μ-loop : tie.MeasureT-loop
+μ-loop ids sum₀ k₀ sum k = length ids - k
+
+loop-holds : tie.Need-loop-holds Inv-loop μ-loop
+loop-holds c = search needs
+
+mul-id : tie.Need-mul-id Inv-loop μ-loop
+mul-id c = search needs
+
+shared-slice-read-id : tie.Need-shared-slice-read-id Inv-loop μ-loop
+shared-slice-read-id c = search needs
+
+cast-with-number : tie.Need-cast-with-number Inv-loop μ-loop
+cast-with-number c = omega (arith, c .shared-slice-known2 .given (c .before .before .loop .k))
+
+with-number-requires : tie.Need-with-number-requires Inv-loop μ-loop
+with-number-requires c κs = search needs
+
+add-k : tie.Need-add-k Inv-loop μ-loop
+add-k c = search needs
+
+loop-less : tie.Need-loop-less Inv-loop μ-loop
+loop-less c = search needs
+
+loop-again : tie.Need-loop-again Inv-loop μ-loop
+loop-again c = search needs
+
+returns : tie.Need-returns Inv-loop μ-loop
+returns c = search needs
+
+pub of-ids-spec : {M : Type 1} → statement M
+of-ids-spec =
+    tie.close
+    (tie.spec
+    Inv-loop
+    μ-loop
+    loop-holds
+    mul-id
+    shared-slice-read-id
+    cast-with-number
+    with-number-requires
+    add-k
+    loop-less
+    loop-again
+    returns)

@@ -1,0 +1,55 @@
+// The digest of a buffer, as docs/STREAM.md describes it.
+ghost use Prim.Native.Nat.{_≤_, _<_};
+
+const MODULUS: u64 = 4_294_967_291;
+
+// The digest with one byte more.
+fn with_byte(digest: u64, byte: u64) -> u64
+    requires { ⌜ (digest < 4294967291) × (byte < 256) ⌝ }
+    ensures { λ r. ⌜ r < 4294967291 ⌝ }
+{
+    (digest * 65_599 + byte + 1) % MODULUS
+}
+
+// The digest with a little-endian number of count bytes more.
+fn with_number(digest: u64, number: u64, count: u32) -> u64
+    requires { ⌜ digest < 4294967291 ⌝ }
+    ensures { λ r. ⌜ r < 4294967291 ⌝ }
+{
+    let mut sum = digest;
+    let mut rest = number;
+    let mut left = count;
+    while 0 < left {
+        sum = with_byte(sum, rest % 256);
+        rest /= 256;
+        left -= 1;
+    }
+    sum
+}
+
+// The digest of a map.
+pub fn of_rows(rows: &[u64]) -> u64
+    ensures { λ r. ⌜ r < 4294967291 ⌝ }
+{
+    let mut sum: u64 = 1;
+    let mut k: usize = 0;
+    while k < rows.len() {
+        sum = with_number(sum, rows[k], 8);
+        k += 1;
+    }
+    sum
+}
+
+// The digest of a room for ids.
+pub fn of_ids(ids: &[u16]) -> u64
+    ensures { λ r. ⌜ r < 4294967291 ⌝ }
+{
+    let mut sum: u64 = 1;
+    let mut k: usize = 0;
+    while k < ids.len() {
+        let id = ids[k];
+        sum = with_number(sum, id as u64, 2);
+        k += 1;
+    }
+    sum
+}

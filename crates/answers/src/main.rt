@@ -1,0 +1,39 @@
+// A test program: reads a stream of cases (docs/STREAM.md) from standard input and prints the answer to each.
+mod digest;
+mod maps;
+mod print;
+mod space;
+mod verdicts;
+
+use image::bytes::four_bytes;
+use libc::STDIN_FILENO;
+
+// More cases than any stream of the gate has.
+const MOST_CASES: u32 = 10_000_000;
+
+// Answers the next case, or says that the stream ends here.
+fn answer_next() -> bool {
+    let mut header = [0u8; 32];
+    if io::read_full(STDIN_FILENO, &mut header) != 32 {
+        return false;
+    }
+    let image_bytes = four_bytes(&header, 4) as usize;
+    let written_rows = four_bytes(&header, 16) as usize;
+    let call = header[0];
+    match call {
+        b'T' => verdicts::answer(b'T', image_bytes),
+        b'P' => verdicts::answer(b'P', image_bytes),
+        b'M' => maps::answer(image_bytes, written_rows),
+        _ => false,
+    }
+}
+
+fn main() {
+    let mut left = MOST_CASES;
+    while 0 < left {
+        if !answer_next() {
+            return;
+        }
+        left -= 1;
+    }
+}

@@ -1,0 +1,76 @@
+// Room for what a case lends, and reading it from the stream.
+ghost use mathlib.Core.Path.{_≡_};
+ghost use mathlib.Core.Bool.{true};
+ghost use Prim.Native.Nat.{_≤_};
+ghost use lib.ListN.{length};
+use image::bytes::four_bytes;
+use libc::STDIN_FILENO;
+
+// Room for the longest image. The promise gives only the length, which lending it as a slice needs.
+pub fn image() -> [u8; 24_576]
+    ensures { λ r. ⌜ 24576 ≡ length r ⌝ }
+{
+    [0; 24_576]
+}
+
+// Room for the longest map.
+pub fn rows() -> [u64; 80]
+    ensures { λ r. ⌜ 80 ≡ length r ⌝ }
+{
+    [0; 80]
+}
+
+// Room for the bytes of the longest map.
+fn row_bytes() -> [u8; 640]
+    ensures { λ r. ⌜ 640 ≡ length r ⌝ }
+{
+    [0; 640]
+}
+
+// Reads count bytes to the start of the space, or says that the stream or the space ends before.
+pub fn fill(space: &mut [u8], count: usize) -> bool
+    ensures { λ r. ⌜ (r ≡ true → count ≤ length (now (space .exit))) ⌝ }
+{
+    if space.len() < count {
+        return false;
+    }
+    io::read_full(STDIN_FILENO, &mut space[..count]) == count
+}
+
+// The little-endian number of eight bytes at a place.
+fn eight_bytes(bytes: &[u8], at: usize) -> u64
+    requires { ⌜ at ≤ 1000 ⌝ }
+{
+    let low = four_bytes(bytes, at) as u64;
+    let high = four_bytes(bytes, at + 4) as u64;
+    low + 4_294_967_296 * high
+}
+
+// Sets the first count rows from their bytes.
+fn set_rows(rows: &mut [u64], bytes: &[u8], count: usize)
+    requires { ⌜ (count ≤ length (now rows)) × (count ≤ 80) ⌝ }
+{
+    let mut k: usize = 0;
+    while k < count {
+        rows[k] = eight_bytes(bytes, 8 * k);
+        k += 1;
+    }
+}
+
+// Reads count rows to the start of a map, or says that the stream or the map ends before.
+pub fn fill_rows(rows: &mut [u64], count: usize) -> bool
+    ensures { λ r. ⌜ (r ≡ true → count ≤ length (now (rows .exit))) ⌝ }
+{
+    if 80 < count {
+        return false;
+    }
+    if rows.len() < count {
+        return false;
+    }
+    let mut bytes = row_bytes();
+    if !fill(&mut bytes, 8 * count) {
+        return false;
+    }
+    set_rows(rows, &bytes, count);
+    true
+}

@@ -1,0 +1,35 @@
+-- What was read of a table's tasks, as functions of the place that agree with the table everywhere.
+use Prim.Native.Nat.{ℕ, _≤_}
+use mathlib.Core.List.{List, []}
+use mathlib.Core.Path.{_≡_, sym, ap, _∙_}
+use native.Mathlib.Omega.{arith}
+use borrow.Author.Tests.{ltb-true, ltb-false}
+use lib.ListN.{getD, length, List·getD-eq-default}
+use lib.Dec.{ltb}
+use Rattle.rules.specs.declared.Task.{Task}
+use Rattle.rules.specs.Records.{tasks, taskCount, taskOf, taskAt}
+use Rattle.rules.proofs.Numbers.{either}
+use Rattle.preempt.specs.Bits.{column}
+use Rattle.preempt.proofs.Columns.{column-length, column-at, column-beyond}
+
+-- a column of a function that is 0 beyond n is the function
+column-total : (n : ℕ) (f : ℕ → ℕ) → n ≤ 64 → ((i : ℕ) → n ≤ i → f i ≡ 0) → (i : ℕ) → getD (column n f) i 0 ≡ f i
+column-total n f few beyond i =
+    either (ltb i n)
+    (λ t. column-at n f i few (ltb-true i n t))
+    (λ t.
+    let out = ltb-false i n t in
+    either (ltb i 64)
+    (λ u. column-beyond n f i out (ltb-true i 64 u) ∙ sym (beyond i out))
+    (λ u.
+    let past : length (column n f) ≤ i = omega (arith, column-length n f, ltb-false i 64 u) in
+    List·getD-eq-default (column n f) 0 past ∙ sym (beyond i out)))
+
+-- a field that an empty record has at 0 is read the same at every place
+pub field-total : (rs : List (List ℕ)) (field : Task → ℕ) (l : List ℕ) → taskCount rs ≤ 64 → field (taskOf []) ≡ 0 → l ≡ column (taskCount rs) (λ i. field (taskAt rs i))
+    → (i : ℕ) → getD l i 0 ≡ field (taskAt rs i)
+field-total rs field l few none read i =
+    ap (λ (c : List ℕ). getD c i 0) read
+    ∙ column-total (taskCount rs) (λ k. field (taskAt rs k)) few
+    (λ k out. ap (λ (r : List ℕ). field (taskOf r)) (List·getD-eq-default (tasks rs) [] out) ∙ none)
+    i

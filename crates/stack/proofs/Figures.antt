@@ -1,0 +1,143 @@
+-- From what is found over rows, sizes and places to the figures of the table and its map.
+use Prim.Native.Nat.{ℕ, _<_}
+use mathlib.Core.List.{List, [], _∷_, map}
+use mathlib.Core.Bool.{Bool, true, _&&_}
+use mathlib.Core.Path.{_≡_, refl, sym, ap, subst, fun-ext, _∙_}
+use borrow.Author.Tests.{lt-ltb}
+use lib.ListN.{length, getD}
+use lib.Dec.{ltb, eqb}
+use Rattle.rules.specs.Records.{numberOf, transactions, taskCount, taskAt}
+use Rattle.rules.specs.Preempt.{cell}
+use Rattle.rules.proofs.Table.Shape.{Shape}
+use Rattle.preempt.specs.declared.tasks.Tasks.{Tasks}
+use Rattle.preempt.specs.Tasks.{TasksRead}
+use Rattle.stack.specs.Paths.{sizeIn, PathBound}
+use Rattle.stack.specs.Figures.{ownTask, OwnPaths}
+use Rattle.stack.proofs.Columns.{field-total}
+use Rattle.rules.specs.Chains.{weight, Chain, Path, All, Before, Largest, Heaviest, related, sizeAt, idAt, priorityAt, inTransaction, TransactionBound}
+use Rattle.rules.specs.Chains.Before.{less, later, shorter}
+use Rattle.rules.proofs.FourBounds.Order.{T-true, true-T}
+use Rattle.stack.specs.Places.{has, Below}
+
+-- every place of the list is below n
+abbrev Within : ℕ → List ℕ → Type 0
+Within n [] = Unit {0}
+Within n (i ∷ c) = (i < n) × Within n c
+
+chain-within : (n : ℕ) (R : ℕ → ℕ → Bool) (c : List ℕ) → Chain n R c → Within n c
+chain-within n R [] h = tt
+chain-within n R (i ∷ c) h = (h .0, chain-within n R c (h .2))
+
+path-within : (n : ℕ) (R : ℕ → ℕ → Bool) (c : List ℕ) → Path n R c → Within n c
+path-within n R [] h = tt
+path-within n R (i ∷ []) h = (h, tt)
+path-within n R (i ∷ (j ∷ c)) h = (h .0, path-within n R (j ∷ c) (h .2))
+
+map-same : (c : List ℕ) → map (λ (i : ℕ). i) c ≡ c
+map-same [] = refl
+map-same (i ∷ c) = ap (λ (d : List ℕ). i ∷ d) (map-same c)
+
+-- where ids rise with places, what comes before by places comes before by ids
+before-ids : (n : ℕ) (id : ℕ → ℕ) → ((i j : ℕ) → i < j → j < n → id i < id j) → {c d : List ℕ} → Within n d → Before c d → Before (map id c) (map id d)
+before-ids n id rise w (less {a = a} {b = b} h) = less (rise a b h (w .0))
+before-ids n id rise w (later b) = later (before-ids n id rise (w .1) b)
+before-ids n id rise w shorter = shorter
+
+-- so the heaviest chain by places is the heaviest by ids
+pub heaviest-ids : (n : ℕ) (R : ℕ → ℕ → Bool) (S id : ℕ → ℕ) (c : List ℕ) → ((i j : ℕ) → i < j → j < n → id i < id j)
+    → Heaviest n R S (λ i. i) c → Heaviest n R S id c
+heaviest-ids n R S id c rise h =
+    record {
+      chain = h .chain;
+      most = h .most;
+      first = λ d chain same other.
+          before-ids n id rise (chain-within n R d chain)
+          (subst (λ (l : List ℕ). Before l d) (map-same c) (subst (λ (l : List ℕ). Before (map (λ (i : ℕ). i) c) l) (map-same d) (h .first d chain same other)));
+    }
+
+-- lists that pass one test wherever they pass another
+all-as : (n : ℕ) (test other : ℕ → Bool) → ((i : ℕ) → i < n → test i ≡ true → other i ≡ true) → (c : List ℕ) → Within n c → All test c → All other c
+all-as n test other same [] w h = tt
+all-as n test other same (i ∷ c) w h =
+    (true-T (other i) (same i (w .0) (T-true (test i) (h .0))), all-as n test other same c (w .1) (h .1))
+
+-- a path bound over one test is that over another that agrees with it at the places
+pub largest-as : (n : ℕ) (R : ℕ → ℕ → Bool) (test other : ℕ → Bool) (S : ℕ → ℕ) (r : ℕ) → ((i : ℕ) → i < n → test i ≡ other i)
+    → Largest (λ c. Path n R c × All test c) (weight S) r → Largest (λ c. Path n R c × All other c) (weight S) r
+largest-as n R test other S r same h =
+    record {
+      reached = (h .reached .0, (h .reached .1 .0, all-as n test other (λ i k t. sym (same i k) ∙ t) (h .reached .0) (path-within n R (h .reached .0) (h .reached .1 .0)) (h .reached .1 .1)), h .reached .2);
+      most = λ c p. h .most c (p .0, all-as n other test (λ i k t. same i k ∙ t) c (path-within n R c (p .0)) (p .1));
+    }
+
+-- a path bound over a set that holds every place is the path bound
+pub largest-all : (n : ℕ) (R : ℕ → ℕ → Bool) (cover : ℕ) (S : ℕ → ℕ) (r : ℕ) → Below n cover
+    → Largest (λ c. Path n R c × All (has cover) c) (weight S) r → Largest (Path n R) (weight S) r
+largest-all n R cover S r below h =
+    record {
+      reached = (h .reached .0, h .reached .1 .0, h .reached .2);
+      most = λ c p. h .most c (p, everywhere c (path-within n R c p));
+    }
+  where
+    everywhere : (c : List ℕ) → Within n c → All (has cover) c
+    everywhere [] w = tt
+    everywhere (i ∷ c) w = (true-T (has cover i) (below i ∙ lt-ltb i n (w .0)), everywhere c (w .1))
+
+module _ (rs : List (List ℕ)) (lent : List ℕ) (t : Tasks) (shape : Shape rs) (read : TasksRead rs t) where
+  sizes-same : sizeIn (t .sizes) ≡ sizeAt rs
+  sizes-same = fun-ext (field-total rs (λ task. task .size) (t .sizes) (shape .few-tasks) refl (read .sizes))
+
+  pub priorities-same : (λ (i : ℕ). getD (t .priorities) i 0) ≡ priorityAt rs
+  priorities-same = fun-ext (field-total rs (λ task. task .priority) (t .priorities) (shape .few-tasks) refl (read .priorities))
+
+  pub numbers-same : (i : ℕ) → getD (t .transactions) i 0 ≡ taskAt rs i .transaction
+  numbers-same = field-total rs (λ task. task .transaction) (t .transactions) (shape .few-tasks) refl (read .transactions)
+
+  pub ids-same : (λ (i : ℕ). getD (t .ids) i 0) ≡ idAt rs
+  ids-same = fun-ext (field-total rs (λ task. task .id) (t .ids) (shape .few-tasks) refl (read .ids))
+
+  -- rows in which a cell counts as it does for the bounds are the relation
+  pub rows-same : (rows : List ℕ)
+      → ((i j : ℕ) → cell rows i j ≡ ((ltb i (t .count) && ltb j (t .count)) && (ltb (getD (t .priorities) i 0) (getD (t .priorities) j 0) && cell lent i j)))
+      → cell rows ≡ related rs lent
+  unfolding related
+  rows-same rows cells =
+      fun-ext
+      (λ i.
+      fun-ext
+      (λ j.
+      let one : (k : ℕ) → getD (t .priorities) k 0 ≡ priorityAt rs k = λ k. ap (λ (f : ℕ → ℕ). f k) priorities-same in
+      cells i j ∙ rw (read .count, one i, one j)))
+
+  module _ (rows : List ℕ) (same : cell rows ≡ related rs lent) where
+    pub chain-found : (c : List ℕ) → Heaviest (t .count) (cell rows) (sizeIn (t .sizes)) (λ i. i) c
+        → Heaviest (taskCount rs) (related rs lent) (sizeAt rs) (idAt rs) c
+    chain-found c h =
+        heaviest-ids (taskCount rs) (related rs lent) (sizeAt rs) (idAt rs) c (shape .tasks-rise)
+        (subst (λ (n : ℕ). Heaviest n (related rs lent) (sizeAt rs) (λ i. i) c) (read .count)
+        (subst (λ (R : ℕ → ℕ → Bool). Heaviest (t .count) R (sizeAt rs) (λ i. i) c) same
+        (subst (λ (S : ℕ → ℕ). Heaviest (t .count) (cell rows) S (λ i. i) c) sizes-same h)))
+
+    -- a bound over paths of the rows is one over paths of the relation
+    over-relation : (test : ℕ → Bool) (r : ℕ) → Largest (λ c. Path (t .count) (cell rows) c × All test c) (weight (sizeIn (t .sizes))) r
+        → Largest (λ c. Path (taskCount rs) (related rs lent) c × All test c) (weight (sizeAt rs)) r
+    over-relation test r h =
+        subst (λ (n : ℕ). Largest (λ c. Path n (related rs lent) c × All test c) (weight (sizeAt rs)) r) (read .count)
+        (subst (λ (R : ℕ → ℕ → Bool). Largest (λ c. Path (t .count) R c × All test c) (weight (sizeAt rs)) r) same
+        (subst (λ (S : ℕ → ℕ). Largest (λ c. Path (t .count) (cell rows) c × All test c) (weight S) r) sizes-same h))
+
+    pub path-found : (cover r : ℕ) → Below (t .count) cover → PathBound (t .count) rows (t .sizes) cover r
+        → Largest (Path (taskCount rs) (related rs lent)) (weight (sizeAt rs)) r
+    path-found cover r below h =
+        largest-all (taskCount rs) (related rs lent) cover (sizeAt rs) r (λ j. below j ∙ ap (ltb j) (read .count)) (over-relation (has cover) r h)
+
+    pub own-found : (r : ℕ) → OwnPaths (t .count) rows (t .sizes) (t .transactions) (transactions rs) (length (transactions rs)) r → TransactionBound rs lent r
+    own-found r own =
+        record {
+          each = own .each;
+          bound = λ k l.
+              largest-as (taskCount rs) (related rs lent) (ownTask (t .transactions) (transactions rs) k) (inTransaction rs k) (sizeAt rs) (own .each k)
+              (λ i h. ap (λ (n : ℕ). eqb n (numberOf (getD (transactions rs) k []))) (numbers-same i))
+              (over-relation (ownTask (t .transactions) (transactions rs) k) (own .each k) (own .bound k l));
+          total = own .total;
+        }

@@ -1,0 +1,9 @@
+pub mod Sets
+pub mod Sums
+pub mod Meeting
+pub mod Opening
+pub mod Extending
+pub mod Inserting
+pub mod Columns
+pub mod Figures
+pub mod Writing

@@ -1,0 +1,6 @@
+pub mod Places
+pub mod Order
+pub mod Setting
+pub mod Paths
+pub mod Search
+pub mod Figures

@@ -1,0 +1,6 @@
+// Path sums and the heaviest preemption chain, over plain slices and numbers.
+pub mod call;
+pub mod order;
+pub mod path;
+pub mod places;
+pub mod search;

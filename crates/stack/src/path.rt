@@ -1,0 +1,57 @@
+// The largest sum of sizes over paths: lists of places where only neighbours must satisfy the relation.
+ghost use Rattle.stack.specs.Places.{Inside};
+ghost use Rattle.stack.specs.Setting.{Ready};
+ghost use Rattle.stack.specs.Paths.{LargestAt, PathBound, NoneAbove};
+use crate::places::has;
+use crate::places::lowest;
+use crate::places::shared;
+use crate::places::wide;
+use crate::places::without;
+
+// The largest of the sums at the places of a set, or 0.
+fn largest_at(sums: &[u32; 64], set: u64) -> u32
+    ensures { λ r. ⌜ LargestAt (now (sums .entry)) set r ⌝ }
+{
+    let mut largest: u32 = 0;
+    let mut rest = set;
+    while 0 < rest {
+        let place = lowest(rest);
+        rest = without(rest, place);
+        let sum = sums[place];
+        if largest < sum {
+            largest = sum;
+        }
+    }
+    largest
+}
+
+// The largest sum over paths inside the cover. Places are taken by falling priority, so that the best sums of all that
+// may preempt a place are known when its own is made.
+pub fn path_bound(rows: &[u64], sizes: &[u32], order: &[u8], count: usize, cover: u64) -> u32
+    requires { ⌜ Ready count (now rows) (now sizes) (now order) ⌝ }
+    requires { ⌜ Inside count cover ⌝ }
+    ensures { λ r. ⌜ PathBound count (now (rows .entry)) (now (sizes .entry)) cover r ⌝ }
+{
+    let mut sums = [0u32; 64];
+    let mut rest = cover;
+    let mut k: usize = 0;
+    while 0 < rest {
+        let place = wide(order[k]);
+        k += 1;
+        if has(rest, place) {
+            let higher = shared(rows[place], cover);
+            sums[place] = sizes[place] + largest_at(&sums, higher);
+            rest = without(rest, place);
+        }
+    }
+    largest_at(&sums, cover)
+}
+
+// What is asked above a chain: no chain inside the cover weighs more than this.
+pub fn above(rows: &[u64], sizes: &[u32], order: &[u8], count: usize, cover: u64) -> u32
+    requires { ⌜ Ready count (now rows) (now sizes) (now order) ⌝ }
+    requires { ⌜ Inside count cover ⌝ }
+    ensures { λ r. ⌜ NoneAbove count (now (rows .entry)) (now (sizes .entry)) cover r ⌝ }
+{
+    path_bound(rows, sizes, order, count, cover)
+}
