@@ -78,16 +78,23 @@ module _ (rs : List (List ℕ)) (shape : Shape rs) (named : Listed rs) (i j : �
   second-offset : Together rs i j → taskAt rs j .offset < period rs i
   second-offset same = omega (arith, named .offset-below j l, ap (periodIn rs) same)
 
-  -- so psi is the distance
+  -- so the distance is a psi
+  pub distance-is-psi : Together rs i j → Psi rs i j (distance (period rs i) (taskAt rs i .offset) (taskAt rs j .offset))
+  distance-is-psi same = (
+    distance-above (period rs i) (taskAt rs i .offset) (taskAt rs j .offset) (named .offset-below i h) (second-offset same),
+    distance-below (period rs i) (taskAt rs i .offset) (taskAt rs j .offset) (named .offset-below i h) (second-offset same),
+  )
+
+  -- and no other number is
   psi-distance : (psi : ℕ) → Together rs i j → Psi rs i j psi → psi ≡ distance (period rs i) (taskAt rs i .offset) (taskAt rs j .offset)
   psi-distance psi same is =
       either (ltb (taskAt rs i .offset) (taskAt rs j .offset))
       (λ t.
       let below = ltb-true (taskAt rs i .offset) (taskAt rs j .offset) t in
-      is .1 below ∙ sym (distance-below (period rs i) (taskAt rs i .offset) (taskAt rs j .offset) (named .offset-below i h) (second-offset same) below))
+      is .1 below ∙ sym (distance-is-psi same .1 below))
       (λ t.
       let above = ltb-false (taskAt rs i .offset) (taskAt rs j .offset) t in
-      is .0 above ∙ sym (distance-above (period rs i) (taskAt rs i .offset) (taskAt rs j .offset) (named .offset-below i h) (second-offset same) above))
+      is .0 above ∙ sym (distance-is-psi same .0 above))
 
   -- the differences of (8) are differences of numbers, and never cut off at 0
   pub differences : (psi : ℕ) → Together rs i j → Psi rs i j psi → (psi < period rs i) × (taskAt rs i .offset ≤ taskAt rs i .response)
@@ -113,6 +120,7 @@ module _ (rs : List (List ℕ)) (shape : Shape rs) (named : Listed rs) (i j : �
         (either-holds _ _ (rw t at set)))
         (λ t. inl (eqb-false (taskAt rs i .transaction) (taskAt rs j .transaction) t))
 
+    -- the other way round, within one transaction
     reaches : Together rs i j → Reaches rs i j psi
         → (ltb (distance (period rs i) (taskAt rs i .offset) (taskAt rs j .offset)) (taskAt rs j .jitter)
         || ltb (period rs i - distance (period rs i) (taskAt rs i .offset) (taskAt rs j .offset)) (taskAt rs i .response - taskAt rs i .offset))
@@ -120,6 +128,7 @@ module _ (rs : List (List ℕ)) (shape : Shape rs) (named : Listed rs) (i j : �
     reaches same (inl v) = rw (lt-ltb _ (taskAt rs j .jitter) (rw (psi-distance psi same (is same)) at v))
     reaches same (inr v) = second-holds (ltb (distance (period rs i) (taskAt rs i .offset) (taskAt rs j .offset)) (taskAt rs j .jitter)) _ (lt-ltb _ (taskAt rs i .response - taskAt rs i .offset) (rw (psi-distance psi same (is same)) at v))
 
+    -- and in either case
     timing-holds : (Together rs i j → ⊥) ⊎ Reaches rs i j psi → timing (period rs i) (taskAt rs i) (taskAt rs j) ≡ true
     timing-holds timely =
         either (eqb (taskAt rs i .transaction) (taskAt rs j .transaction))
@@ -133,14 +142,14 @@ module _ (rs : List (List ℕ)) (shape : Shape rs) (named : Listed rs) (i j : �
     unfolding decided mayPreempt
     map-is-equation-8 =
         let here = cell-of-map (taskCount rs) (decided rs) i j (shape .few-tasks) h l in
-        let free = barred rs (taskAt rs i .id) (taskAt rs j .id) in (
+        let bar = barred rs (taskAt rs i .id) (taskAt rs j .id) in (
           λ set.
-              let decision : (ltb (taskAt rs i .priority) (taskAt rs j .priority) && (not free && timing (period rs i) (taskAt rs i) (taskAt rs j))) ≡ true = sym here ∙ set in
+              let decision : (ltb (taskAt rs i .priority) (taskAt rs j .priority) && (not bar && timing (period rs i) (taskAt rs i) (taskAt rs j))) ≡ true = sym here ∙ set in
               let rest = both-second (ltb (taskAt rs i .priority) (taskAt rs j .priority)) _ decision in
               record {
                 urgent = ltb-true (taskAt rs i .priority) (taskAt rs j .priority) (both-first _ _ decision);
-                allowed = none-barred rs (taskAt rs i .id) (taskAt rs j .id) (not-true free (both-first (not free) _ rest));
-                timely = timing-says (both-second (not free) _ rest);
+                allowed = none-barred rs (taskAt rs i .id) (taskAt rs j .id) (not-true bar (both-first (not bar) _ rest));
+                timely = timing-says (both-second (not bar) _ rest);
               },
           λ p.
               here
