@@ -4,3 +4,4 @@ pub mod Meeting
 pub mod Opening
 pub mod Extending
 pub mod Inserting
+pub mod Relating

@@ -3,3 +3,4 @@ pub mod Order
 pub mod Setting
 pub mod Paths
 pub mod Search
+pub mod Related

@@ -2,4 +2,5 @@
 pub mod order;
 pub mod path;
 pub mod places;
+pub mod related;
 pub mod search;
