@@ -5,3 +5,4 @@ pub mod Opening
 pub mod Extending
 pub mod Inserting
 pub mod Relating
+pub mod Levelling

@@ -4,3 +4,4 @@ pub mod Setting
 pub mod Paths
 pub mod Search
 pub mod Related
+pub mod Levels

@@ -1,4 +1,5 @@
 // Path sums and the heaviest preemption chain, over plain slices and numbers.
+pub mod levels;
 pub mod order;
 pub mod path;
 pub mod places;
