@@ -4,6 +4,11 @@ pub mod Meeting
 pub mod Opening
 pub mod Extending
 pub mod Inserting
+pub mod Relating
+pub mod Levelling
 pub mod Columns
 pub mod Figures
 pub mod Writing
+pub mod Owning
+pub mod Readying
+pub mod Calling

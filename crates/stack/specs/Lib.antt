@@ -3,4 +3,6 @@ pub mod Order
 pub mod Setting
 pub mod Paths
 pub mod Search
+pub mod Related
+pub mod Levels
 pub mod Figures

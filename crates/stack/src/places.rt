@@ -1,8 +1,10 @@
 // Sets of places: a number whose bit j says whether place j is in the set.
 ghost use mathlib.Core.Path.{_≡_};
-ghost use mathlib.Core.Bool.{true};
+ghost use mathlib.Core.Bool.{true, false};
 ghost use Prim.Native.Nat.{_≤_, _<_};
+ghost use lib.ListN.{length};
 ghost use Rattle.stack.specs.Places.{has as Places·has, Lowest, Without, Shared, Below};
+ghost use Rattle.stack.specs.Related.{With, Members};
 
 // A place, as a number to index with.
 pub fn wide(place: u8) -> usize
@@ -52,4 +54,28 @@ pub fn all_below(count: usize) -> u64
     } else {
         (1 << count) - 1
     }
+}
+
+// The set with one more place.
+pub fn with(set: u64, place: usize) -> u64
+    requires { ⌜ (place < 64) × (Places·has set place ≡ false) ⌝ }
+    ensures { λ r. ⌜ With set place r ⌝ }
+{
+    set + (1 << place)
+}
+
+// The places below count whose number is this one.
+pub fn members(numbers: &[u32], count: usize, number: u32) -> u64
+    requires { ⌜ (count ≤ 64) × (count ≤ length (now numbers)) ⌝ }
+    ensures { λ r. ⌜ Members (now (numbers .entry)) count number r ⌝ }
+{
+    let mut set: u64 = 0;
+    let mut place: usize = 0;
+    while place < count {
+        if numbers[place] == number {
+            set = with(set, place);
+        }
+        place += 1;
+    }
+    set
 }
