@@ -1,30 +1,33 @@
 -- From what is found over rows, sizes and places to the figures of the table and its map.
-use Prim.Native.Nat.{ℕ, _<_}
+use Prim.Native.Nat.{ℕ, _+_, _<_}
 use mathlib.Core.List.{List, [], _∷_, map}
-use mathlib.Core.Bool.{Bool, true, _&&_}
+use mathlib.Core.Bool.{Bool, true, cond, _&&_}
 use mathlib.Core.Path.{_≡_, refl, sym, ap, subst, fun-ext, _∙_}
 use borrow.Author.Tests.{lt-ltb}
 use lib.ListN.{length, getD}
 use lib.Dec.{ltb, eqb}
 use Rattle.rules.specs.Records.{numberOf, transactions, taskCount, taskAt}
+use Rattle.rules.specs.Numbers.{sumTo, largestTo}
 use Rattle.rules.specs.Preempt.{cell}
 use Rattle.rules.proofs.Table.Shape.{Shape}
 use Rattle.preempt.specs.declared.tasks.Tasks.{Tasks}
 use Rattle.preempt.specs.Tasks.{TasksRead}
-use Rattle.stack.specs.Paths.{sizeIn, PathBound}
-use Rattle.stack.specs.Figures.{ownTask, OwnPaths}
+use Rattle.stack.specs.declared.call.Found.{Found}
+use Rattle.stack.specs.Paths.{sizeIn}
+use Rattle.stack.specs.Levels.{levelsOf}
+use Rattle.stack.specs.Figures.{ownTask, OwnPaths, figuresIn, FoundOver, FoundFor}
 use Rattle.stack.proofs.Columns.{field-total}
-use Rattle.rules.specs.Chains.{weight, Chain, Path, All, Before, Largest, Heaviest, related, sizeAt, idAt, priorityAt, inTransaction, TransactionBound}
+use Rattle.rules.specs.Chains.{weight, Chain, Path, All, Before, Largest, Heaviest, related, sizeAt, idAt, priorityAt, inTransaction, TransactionBound, levelBound}
 use Rattle.rules.specs.Chains.Before.{less, later, shorter}
 use Rattle.rules.proofs.FourBounds.Order.{T-true, true-T}
 use Rattle.stack.specs.Places.{has, Below}
 
 -- every place of the list is below n
-abbrev Within : ℕ → List ℕ → Type 0
+abbrev pub Within : ℕ → List ℕ → Type 0
 Within n [] = Unit {0}
 Within n (i ∷ c) = (i < n) × Within n c
 
-chain-within : (n : ℕ) (R : ℕ → ℕ → Bool) (c : List ℕ) → Chain n R c → Within n c
+pub chain-within : (n : ℕ) (R : ℕ → ℕ → Bool) (c : List ℕ) → Chain n R c → Within n c
 chain-within n R [] h = tt
 chain-within n R (i ∷ c) h = (h .0, chain-within n R c (h .2))
 
@@ -118,26 +121,51 @@ module _ (rs : List (List ℕ)) (lent : List ℕ) (t : Tasks) (shape : Shape rs)
         (subst (λ (R : ℕ → ℕ → Bool). Heaviest (t .count) R (sizeAt rs) (λ i. i) c) same
         (subst (λ (S : ℕ → ℕ). Heaviest (t .count) (cell rows) S (λ i. i) c) sizes-same h)))
 
-    -- a bound over paths of the rows is one over paths of the relation
-    over-relation : (test : ℕ → Bool) (r : ℕ) → Largest (λ c. Path (t .count) (cell rows) c × All test c) (weight (sizeIn (t .sizes))) r
-        → Largest (λ c. Path (taskCount rs) (related rs lent) c × All test c) (weight (sizeAt rs)) r
-    over-relation test r h =
-        subst (λ (n : ℕ). Largest (λ c. Path n (related rs lent) c × All test c) (weight (sizeAt rs)) r) (read .count)
-        (subst (λ (R : ℕ → ℕ → Bool). Largest (λ c. Path (t .count) R c × All test c) (weight (sizeAt rs)) r) same
-        (subst (λ (S : ℕ → ℕ). Largest (λ c. Path (t .count) (cell rows) c × All test c) (weight S) r) sizes-same h))
+    -- a bound over lists of the rows is one over lists of the relation
+    over-relation : (Lists : ℕ → (ℕ → ℕ → Bool) → List ℕ → Type 0) (r : ℕ) → Largest (Lists (t .count) (cell rows)) (weight (sizeIn (t .sizes))) r
+        → Largest (Lists (taskCount rs) (related rs lent)) (weight (sizeAt rs)) r
+    over-relation Lists r h =
+        subst (λ (n : ℕ). Largest (Lists n (related rs lent)) (weight (sizeAt rs)) r) (read .count)
+        (subst (λ (R : ℕ → ℕ → Bool). Largest (Lists (t .count) R) (weight (sizeAt rs)) r) same
+        (subst (λ (S : ℕ → ℕ). Largest (Lists (t .count) (cell rows)) (weight S) r) sizes-same h))
 
-    pub path-found : (cover r : ℕ) → Below (t .count) cover → PathBound (t .count) rows (t .sizes) cover r
+    pub path-found : (r : ℕ) → Largest (Path (t .count) (cell rows)) (weight (sizeIn (t .sizes))) r
         → Largest (Path (taskCount rs) (related rs lent)) (weight (sizeAt rs)) r
-    path-found cover r below h =
-        largest-all (taskCount rs) (related rs lent) cover (sizeAt rs) r (λ j. below j ∙ ap (ltb j) (read .count)) (over-relation (has cover) r h)
+    path-found r h = over-relation Path r h
 
     pub own-found : (r : ℕ) → OwnPaths (t .count) rows (t .sizes) (t .transactions) (transactions rs) (length (transactions rs)) r → TransactionBound rs lent r
     own-found r own =
         record {
           each = own .each;
           bound = λ k l.
-              largest-as (taskCount rs) (related rs lent) (ownTask (t .transactions) (transactions rs) k) (inTransaction rs k) (sizeAt rs) (own .each k)
-              (λ i h. ap (λ (n : ℕ). eqb n (numberOf (getD (transactions rs) k []))) (numbers-same i))
-              (over-relation (ownTask (t .transactions) (transactions rs) k) (own .each k) (own .bound k l));
-          total = own .total;
+            largest-as (taskCount rs) (related rs lent) (ownTask (t .transactions) (transactions rs) k) (inTransaction rs k) (sizeAt rs) (own .each k)
+            (λ i h. ap (λ (n : ℕ). eqb n (numberOf (getD (transactions rs) k []))) (numbers-same i))
+            (over-relation (λ n R c. Path n R c × All (ownTask (t .transactions) (transactions rs) k) c) (own .each k) (own .bound k l));
+          total = own .total
         }
+
+  -- the largest sizes by priority, added up, over any priorities and sizes
+  abbrev levelSum : (ℕ → ℕ) → (ℕ → ℕ) → ℕ → ℕ
+  levelSum P S n = sumTo (λ p. largestTo (λ i. cond (eqb (P i) p) (S i) 0) n) (largestTo P n + 1)
+
+  pub levels-found : levelsOf (t .priorities) (t .sizes) (t .count) ≡ levelBound rs
+  levels-found =
+      ap (λ (P : ℕ → ℕ). levelSum P (sizeIn (t .sizes)) (t .count)) priorities-same
+      ∙ ap (λ (S : ℕ → ℕ). levelSum (priorityAt rs) S (t .count)) sizes-same
+      ∙ ap (levelSum (priorityAt rs) (sizeAt rs)) (read .count)
+
+  -- what was found over the rows of the relation is right for the table and the map
+  pub found-for : (rows : List ℕ) (found : Found) → cell rows ≡ related rs lent
+      → FoundOver (t .count) rows (t .sizes) (t .priorities) (t .transactions) (transactions rs) found → FoundFor rs lent found
+  found-for rows found same over =
+      record {
+        right =
+          record {
+            chain = chain-found rows same (figuresIn found .chain) (over .heaviest);
+            path = path-found rows same (found .path) (over .path);
+            transactions = own-found rows same (found .transactions) (over .own);
+            levels = over .levels ∙ levels-found
+          };
+        chain = over .weighs ∙ ap (λ (S : ℕ → ℕ). weight S (figuresIn found .chain)) sizes-same;
+        room = over .room
+      }

@@ -8,9 +8,10 @@ use lib.Dec.{eqb}
 use Rattle.rules.specs.Numbers.{sumTo}
 use Rattle.rules.specs.Records.{numberOf}
 use Rattle.rules.specs.Preempt.{cell}
-use Rattle.rules.specs.Chains.{weight, Path, All, Largest, Figures, FiguresOf, chainBound}
+use Rattle.rules.specs.Chains.{weight, Path, All, Largest, Heaviest, Figures, FiguresOf, chainBound}
 use Rattle.stack.specs.declared.call.Found.{Found}
 use Rattle.stack.specs.Paths.{sizeIn}
+use Rattle.stack.specs.Levels.{levelsOf}
 
 -- the place's number is that of listed record t
 abbrev pub ownTask : List ℕ → List (List ℕ) → ℕ → ℕ → Bool
@@ -32,6 +33,15 @@ figuresIn found =
       transactions = found .transactions;
       levels = found .levels;
     }
+
+-- what was found over the rows of the relation, the sizes, the priorities and the numbers of the tasks' transactions
+pub record FoundOver (n : ℕ) (rows sizes priorities numbers : List ℕ) (listed : List (List ℕ)) (found : Found) : Type 0 where
+  pub heaviest : Heaviest n (cell rows) (sizeIn sizes) (λ i. i) (figuresIn found .chain)
+  pub weighs : found .chain ≡ weight (sizeIn sizes) (figuresIn found .chain)
+  pub room : found .length ≤ 64
+  pub path : Largest (Path n (cell rows)) (weight (sizeIn sizes)) (found .path)
+  pub own : OwnPaths n rows sizes numbers listed (length listed) (found .transactions)
+  pub levels : found .levels ≡ levelsOf priorities sizes n
 
 -- what was found is right for the table and the map
 pub record FoundFor (rs : List (List ℕ)) (rows : List ℕ) (found : Found) : Type 0 where

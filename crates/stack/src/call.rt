@@ -8,9 +8,22 @@ ghost use Rattle.rules.specs.Blocks.{records};
 ghost use Rattle.rules.specs.Refusals.{accepted, tableVerdict, passes as Refusals·passes, refusal as Refusals·refusal};
 ghost use Rattle.rules.specs.Calls.{over, BoundCall, boundRefusal};
 ghost use Rattle.preempt.specs.Tasks.{TasksRead};
-ghost use Rattle.stack.specs.Figures.{FoundFor};
+ghost use Rattle.rules.specs.Records.{transactions};
+ghost use Rattle.stack.specs.Setting.{Ready, Rising};
+ghost use Rattle.stack.specs.Figures.{FoundOver, FoundFor};
+use crate::levels::level_bound;
+use crate::order::by_falling_priority;
+use crate::own::transaction_bound;
+use crate::path::path_bound;
+use crate::places::all_below;
 use crate::places::wide;
+use crate::related::related_rows;
+use crate::search::heaviest_chain;
+use preempt::tasks::Tasks;
+use preempt::tasks::read_tasks;
 use rules::Bounds;
+use rules::Verdict;
+use table::table_verdict;
 
 // The chain by its places, its length and weight, and the other bounds.
 pub struct Found {
@@ -36,6 +49,53 @@ fn refused(number: u32, place: u32) -> Bounds
         levels: 0,
         length: 0,
     }
+}
+
+// The chain and the bounds over the rows of the relation and an order of the places.
+fn find_over(
+    image: &[u8],
+    priorities: &[u32],
+    sizes: &[u32],
+    numbers: &[u32],
+    rows: &[u64],
+    order: &[u8],
+    count: usize,
+) -> Found
+    requires { ⌜ accepted (tableVerdict (now image)) ≡ true ⌝ }
+    requires { ⌜ Ready count (now rows) (now sizes) (now order) ⌝ }
+    requires { ⌜ Rising count (now rows) (now priorities) ⌝ }
+    requires { ⌜ length (now numbers) ≡ 64 ⌝ }
+    ensures { λ r. ⌜ FoundOver count (now (rows .entry)) (now (sizes .entry)) (now (priorities .entry)) (now (numbers .entry)) (transactions (records (now (image .entry)))) r ⌝ }
+{
+    let best = heaviest_chain(rows, sizes, priorities, order, count);
+    let path = path_bound(rows, sizes, order, count, all_below(count));
+    let own = transaction_bound(image, numbers, rows, sizes, order, count);
+    let levels = level_bound(priorities, sizes, count);
+    let places = best.places;
+    Found {
+        places,
+        length: best.length,
+        chain: best.weight,
+        path,
+        transactions: own,
+        levels,
+    }
+}
+
+// The chain and the bounds of an accepted table over a lent map.
+fn find(image: &[u8], tasks: Tasks, map: &[u64]) -> Found
+    requires { ⌜ accepted (tableVerdict (now image)) ≡ true ⌝ }
+    requires { ⌜ TasksRead (records (now image)) tasks ⌝ }
+    requires { ⌜ 64 ≤ length (now map) ⌝ }
+    ensures { λ r. ⌜ FoundFor (records (now (image .entry))) (now (map .entry)) r ⌝ }
+{
+    let count = tasks.count;
+    let priorities = tasks.priorities;
+    let sizes = tasks.sizes;
+    let numbers = tasks.transactions;
+    let rows = related_rows(&priorities, map, count);
+    let order = by_falling_priority(&priorities, count);
+    find_over(image, &priorities, &sizes, &numbers, &rows, &order, count)
 }
 
 // Whether one of the bounds passes what an answer can hold.
@@ -66,5 +126,41 @@ fn write_ids(places: [u8; 64], count: usize, numbers: &[u32], ids: &mut [u16])
         let place = wide(places[k]);
         ids[k] = numbers[place] as u16;
         k += 1;
+    }
+}
+
+// The chain bound with its chain, and the path, transactions and levels bounds, of a table image over a lent map of any
+// contents. The chain's ids go to the lent room; a refusal writes nothing.
+pub fn find_bounds(image: &[u8], map: &[u64], ids: &mut [u16]) -> Bounds
+    ensures { λ r. ⌜ BoundCall (now (image .entry)) (now (map .entry)) (now (ids .entry)) r (now (ids .exit)) ⌝ }
+{
+    let verdict = table_verdict(image);
+    if verdict.number != 0 {
+        return refused(verdict.number, verdict.place);
+    }
+    if map.len() < 64 {
+        return refused(11, 0);
+    }
+    if ids.len() < 64 {
+        return refused(11, 0);
+    }
+    let tasks = read_tasks(image);
+    let found = find(image, tasks, map);
+    if passes_any(found) {
+        return refused(12, 0);
+    }
+    let places = found.places;
+    let length = found.length;
+    let numbers = tasks.ids;
+    write_ids(places, length, &numbers, ids);
+    Bounds {
+        number: 0,
+        place: 0,
+        tasks: tasks.count as u32,
+        chain: found.chain,
+        path: found.path,
+        transactions: found.transactions as u32,
+        levels: found.levels,
+        length: length as u32,
     }
 }

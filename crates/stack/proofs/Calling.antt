@@ -1,0 +1,98 @@
+-- The answers of a bound call: refused by the table, by a short map or room, by a bound too large, or found.
+use Prim.Native.Nat.{ℕ, _≤_, _<_}
+use mathlib.Core.List.{List, [], _∷_, map}
+use mathlib.Core.Bool.{Bool, true, false, _||_}
+use mathlib.Core.Path.{_≡_, refl, sym, ap, _∙_}
+use native.Mathlib.Omega.{arith}
+use borrow.Author.Tests.{lt-ltb, le-ltb}
+use lib.ListN.{length, getD, take}
+use lib.Seq.{getD-take, length-take-le}
+use lib.Dec.{ltb}
+use Rattle.rules.specs.declared.Bounds.{Bounds}
+use Rattle.rules.specs.declared.Verdict.{Verdict}
+use Rattle.rules.specs.Blocks.{records}
+use Rattle.rules.specs.Records.{taskCount}
+use Rattle.rules.specs.Chains.{chainIds, related}
+use Rattle.rules.specs.Refusals.{fine, accepted, refusal, passes, tableVerdict}
+use Rattle.rules.specs.Calls.{over, BoundCall, boundVerdict, boundRefusal, boundsFound, passesAny}
+use Rattle.rules.proofs.Numbers.{either, never}
+use Rattle.stack.specs.declared.call.Found.{Found}
+use Rattle.stack.specs.Figures.{figuresIn, FoundFor}
+use Rattle.stack.proofs.Figures.{Within, chain-within}
+
+module _ (image lent ids : List ℕ) where
+  -- a verdict that refuses before the bounds are asked is the answer
+  refused-by : (v : Verdict) → boundVerdict image lent ids ≡ v → accepted v ≡ false → BoundCall image lent ids (boundRefusal v) ids
+  refused-by v e no′ =
+      record {
+        refused = λ h. (ap boundRefusal (sym e), refl);
+        worked = λ h. never (accepted v) (ap accepted (sym e) ∙ h) no′
+      }
+
+  pub by-table : accepted (tableVerdict image) ≡ false → BoundCall image lent ids (boundRefusal (tableVerdict image)) ids
+  unfolding boundVerdict
+  by-table no′ = refused-by (tableVerdict image) (rw no′) no′
+
+  pub by-short : accepted (tableVerdict image) ≡ true → (ltb (length lent) 64 || ltb (length ids) 64) ≡ true
+      → BoundCall image lent ids (boundRefusal (refusal 11 0)) ids
+  unfolding boundVerdict
+  by-short yes′ short = refused-by (refusal 11 0) (rw (yes′, short)) refl
+
+  module _ (yes′ : accepted (tableVerdict image) ≡ true) (map-long : 64 ≤ length lent) (room-long : 64 ≤ length ids) (found : Found) (right : FoundFor (records image) lent found) where
+    no-fault : accepted (boundVerdict image lent ids) ≡ true
+    unfolding boundVerdict
+    no-fault = rw (yes′, le-ltb (length lent) 64 map-long, le-ltb (length ids) 64 room-long)
+
+    -- the figures that were found are those that the answer speaks of
+    worked-out : (answer : Bounds) (later : List ℕ)
+        → (passesAny (records image) (figuresIn found) ≡ true → (answer ≡ boundRefusal (refusal 12 0)) × (later ≡ ids))
+        → (passesAny (records image) (figuresIn found) ≡ false → (answer ≡ boundsFound (records image) (figuresIn found)) × (later ≡ over (chainIds (records image) (figuresIn found)) ids))
+        → BoundCall image lent ids answer later
+    worked-out answer later passed fits =
+        record {
+          refused = λ h. never (accepted (boundVerdict image lent ids)) no-fault h;
+          worked = λ h. record { figures = figuresIn found; right = right .right; passed = passed; found = fits }
+        }
+
+    -- whether a bound is too large is asked of what was found
+    passes-same : (passes (found .chain) || (passes (found .path) || (passes (found .transactions) || passes (found .levels)))) ≡ passesAny (records image) (figuresIn found)
+    passes-same = rw (right .chain)
+
+    pub by-size : (passes (found .chain) || (passes (found .path) || (passes (found .transactions) || passes (found .levels)))) ≡ true
+        → BoundCall image lent ids (boundRefusal (refusal 12 0)) ids
+    by-size large =
+        worked-out (boundRefusal (refusal 12 0)) ids (λ h. (refl, refl))
+        (λ h. never (passesAny (records image) (figuresIn found)) (sym passes-same ∙ large) h)
+
+    pub answered : (later : List ℕ) (count : ℕ) → (passes (found .chain) || (passes (found .path) || (passes (found .transactions) || passes (found .levels)))) ≡ false
+        → count ≡ taskCount (records image) → length (found .places) ≡ 64 → later ≡ over (chainIds (records image) (figuresIn found)) ids
+        → BoundCall image lent ids
+        (record {
+          number = 0;
+          place = 0;
+          tasks = count;
+          chain = found .chain;
+          path = found .path;
+          transactions = found .transactions;
+          levels = found .levels;
+          length = found .length
+        })
+        later
+    answered later count small counted long written =
+        worked-out _ later
+        (λ h. never (passesAny (records image) (figuresIn found)) h (sym passes-same ∙ small))
+        (λ h.
+          let size : length (take (found .length) (found .places)) ≡ found .length = length-take-le (found .length) (found .places) (omega (arith, right .room)) in
+          (rw (counted, right .chain, size), written))
+
+    -- every place of the chain is a task's
+    pub places-below : (few : taskCount (records image) ≤ 64) (k : ℕ) → length (found .places) ≡ 64 → k < found .length → getD (found .places) k 0 < 64
+    places-below few k long h =
+        let size : length (take (found .length) (found .places)) ≡ found .length = length-take-le (found .length) (found .places) (omega (arith, right .room)) in
+        let within = chain-within (taskCount (records image)) (related (records image) lent) (take (found .length) (found .places)) (right .right .chain .chain) in
+        omega (arith, within-at (taskCount (records image)) (take (found .length) (found .places)) within k (omega arith), getD-take (found .length) (found .places) k 0 h)
+      where
+        within-at : (n : ℕ) (c : List ℕ) → Within n c → (k : ℕ) → k < length c → getD c k 0 < n
+        within-at n [] w k l = absurd (omega arith)
+        within-at n (i ∷ c) w Prim.Native.Nat.zero l = w .0
+        within-at n (i ∷ c) w (Prim.Native.Nat.suc k) l = within-at n c (w .1) k (omega arith)

@@ -1,0 +1,62 @@
+-- The path bounds of each transaction's own tasks, added up one by one.
+use Prim.Native.Nat.{ℕ, _+_, _≤_, _<_}
+use mathlib.Core.List.{List, []}
+use mathlib.Core.Bool.{Bool, true, false, cond, _&&_}
+use mathlib.Core.Path.{_≡_, refl, sym, ap, _∙_}
+use native.Mathlib.Omega.{arith}
+use borrow.Author.Tests.{lt-ltb, ltb-true, eqb-true, eqb-false, eq-eqb, ne-eqb}
+use lib.ListN.{getD}
+use lib.Dec.{ltb, eqb}
+use Rattle.rules.specs.Numbers.{sumTo}
+use Rattle.rules.specs.Records.{numberOf}
+use Rattle.rules.specs.Preempt.{cell}
+use Rattle.rules.specs.Chains.{weight, Path, All, Largest}
+use Rattle.rules.proofs.Numbers.{either, sumTo-zero, sumTo-step, sumTo-ext}
+use Rattle.rules.proofs.Tests.{both-first}
+use Rattle.stack.specs.Places.{has, Inside}
+use Rattle.stack.specs.Paths.{sizeIn, PathBound}
+use Rattle.stack.specs.Related.{Members}
+use Rattle.stack.specs.Figures.{ownTask, OwnPaths}
+use Rattle.stack.proofs.Figures.{largest-as}
+
+-- members of a number are places below the count
+pub members-inside : (numbers : List ℕ) (count number set : ℕ) → Members numbers count number set → Inside count set
+members-inside numbers count number set members j h =
+    ltb-true j count (both-first (ltb j count) (eqb (getD numbers j 0) number) (sym (members j) ∙ h))
+
+-- the path bound inside a transaction's members is that of its own tasks
+pub members-own : (n : ℕ) (rows sizes numbers : List ℕ) (listed : List (List ℕ)) (t number set r : ℕ) → number ≡ numberOf (getD listed t [])
+    → Members numbers n number set → PathBound n rows sizes set r
+    → Largest (λ c. Path n (cell rows) c × All (ownTask numbers listed t) c) (weight (sizeIn sizes)) r
+members-own n rows sizes numbers listed t number set r here members bound =
+    largest-as n (cell rows) (has set) (ownTask numbers listed t) (sizeIn sizes) r
+    (λ i h. members i ∙ rw (lt-ltb i n h, here)) bound
+
+module _ (n : ℕ) (rows sizes numbers : List ℕ) (listed : List (List ℕ)) where
+  pub own-none : OwnPaths n rows sizes numbers listed 0 0
+  own-none = record { each = λ t. 0; bound = λ t h. absurd (omega arith); total = sym (sumTo-zero (λ t. 0)) }
+
+  -- one more transaction adds its own bound
+  pub own-more : (t total r : ℕ) → OwnPaths n rows sizes numbers listed t total
+      → Largest (λ c. Path n (cell rows) c × All (ownTask numbers listed t) c) (weight (sizeIn sizes)) r
+      → OwnPaths n rows sizes numbers listed (t + 1) (total + r)
+  own-more t total r own more =
+      record {
+        each = each;
+        bound = λ k h.
+          either (eqb k t)
+          (λ u.
+            let same = eqb-true k t u in
+            rw (same, eq-eqb t t refl) more)
+          (λ u. rw u (own .bound k (omega (arith, eqb-false k t u))));
+        total =
+          ap (λ (x : ℕ). x + r) (own .total ∙ sumTo-ext (own .each) each t (λ k h. rw (ne-eqb k t (λ e. omega arith))))
+          ∙ ap (λ (x : ℕ). sumTo each t + x) last
+          ∙ sym (sumTo-step each t)
+      }
+    where
+      each : ℕ → ℕ
+      each k = cond (eqb k t) r (own .each k)
+
+      last : r ≡ each t
+      last = rw (eq-eqb t t refl)

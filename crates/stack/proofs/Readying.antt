@@ -1,0 +1,82 @@
+-- What an accepted table gives that the bounds ask: sizes and priorities in range, arrays of 64, rows that rise.
+use Prim.Native.Nat.{ℕ, _≤_, _<_}
+use mathlib.Core.List.{List, []}
+use mathlib.Core.Bool.{Bool, true, _&&_}
+use mathlib.Core.Path.{_≡_, sym, ap, _∙_}
+use native.Mathlib.Omega.{arith}
+use borrow.Author.Tests.{ltb-true}
+use lib.ListN.{length, getD}
+use lib.Dec.{T, ltb}
+use mir.Val.{Fits}
+use mir.Syntax.{w8}
+use Rattle.rules.specs.Numbers.{Bytes}
+use Rattle.rules.specs.Blocks.{records}
+use Rattle.rules.specs.Records.{tasks, taskCount, taskAt}
+use Rattle.rules.specs.Refusals.{accepted, tableVerdict}
+use Rattle.rules.specs.Preempt.{cell}
+use Rattle.rules.specs.Chains.{sizeAt, idAt, priorityAt}
+use Rattle.rules.proofs.Tests.{both-first, both-second}
+use Rattle.rules.proofs.FourBounds.Order.{T-true}
+use Rattle.rules.proofs.Table.Ranges.{TaskRanges, task-ranges, le2-small}
+use Rattle.rules.proofs.Table.Shape.{Shape, ofKind-bytes}
+use Rattle.preempt.specs.declared.tasks.Tasks.{Tasks}
+use Rattle.preempt.specs.Tasks.{TasksRead}
+use Rattle.preempt.proofs.Accepted.{shape}
+use Rattle.preempt.proofs.Columns.{column-length}
+use Rattle.stack.specs.Order.{Falling}
+use Rattle.stack.specs.Setting.{Ready, Rising}
+use Rattle.stack.specs.Related.{RelatedRows, relatedIn}
+use Rattle.stack.proofs.Inserting.{falling-ready}
+use Rattle.stack.proofs.Columns.{field-total}
+
+module _ (image : List ℕ) (known : (k : ℕ) → Fits w8 (getD image k 0)) (right : accepted (tableVerdict image) ≡ true) (t : Tasks) (read : TasksRead (records image) t) where
+  accepted-shape : Shape (records image)
+  accepted-shape = shape image known right
+
+  pub few-read : t .count ≤ 64
+  few-read = omega (arith, read .count, accepted-shape .few-tasks)
+
+  pub priorities-long : length (t .priorities) ≡ 64
+  priorities-long = ap length (read .priorities) ∙ column-length (taskCount (records image)) (λ i. taskAt (records image) i .priority)
+
+  pub sizes-long : length (t .sizes) ≡ 64
+  sizes-long = ap length (read .sizes) ∙ column-length (taskCount (records image)) (λ i. taskAt (records image) i .size)
+
+  pub numbers-long : length (t .transactions) ≡ 64
+  numbers-long = ap length (read .transactions) ∙ column-length (taskCount (records image)) (λ i. taskAt (records image) i .transaction)
+
+  pub ids-long : length (t .ids) ≡ 64
+  ids-long = ap length (read .ids) ∙ column-length (taskCount (records image)) (λ i. taskAt (records image) i .id)
+
+  -- the ranges of a task, by its place
+  ranges : (i : ℕ) → i < t .count → TaskRanges (getD (tasks (records image)) i [])
+  ranges i h = task-ranges (getD (tasks (records image)) i []) (accepted-shape .tasks-right i (omega (arith, read .count)))
+
+  priority-is : (i : ℕ) → getD (t .priorities) i 0 ≡ priorityAt (records image) i
+  priority-is = field-total (records image) (λ task. task .priority) (t .priorities) (accepted-shape .few-tasks) (λ i. 0) (read .priorities)
+
+  -- a number of two bytes fits two bytes, at any place
+  pub sizes-light : (i : ℕ) → getD (t .sizes) i 0 ≤ 65535
+  sizes-light i =
+      omega (arith, field-total (records image) (λ task. task .size) (t .sizes) (accepted-shape .few-tasks) (λ i. 0) (read .sizes) i, le2-small (getD (tasks (records image)) i []) (ofKind-bytes image (λ k. known k .fits) 2 i) 20)
+
+  pub ids-small : (i : ℕ) → getD (t .ids) i 0 < 65536
+  ids-small i =
+      omega (arith, field-total (records image) (λ task. task .id) (t .ids) (accepted-shape .few-tasks) (λ i. 0) (read .ids) i, le2-small (getD (tasks (records image)) i []) (ofKind-bytes image (λ k. known k .fits) 2 i) 2)
+
+  -- cells that count rise in priority
+  pub rows-rising : (lent rows : List ℕ) → RelatedRows (t .count) (t .priorities) lent rows → Rising (t .count) rows (t .priorities)
+  rows-rising lent rows related =
+      record {
+        priority-count = priorities-long;
+        rises = λ i j h k may.
+          let both = sym (related .cells i j) ∙ T-true (cell rows i j) may in
+          ltb-true (getD (t .priorities) i 0) (getD (t .priorities) j 0) (both-first (ltb (getD (t .priorities) i 0) (getD (t .priorities) j 0)) (cell lent i j) (both-second (ltb i (t .count) && ltb j (t .count)) _ both));
+        least = λ i h. omega (arith, priority-is i, ranges i h .some-priority);
+        most = λ i h. omega (arith, priority-is i, ranges i h .most-priority)
+      }
+
+  pub rows-ready : (lent rows order : List ℕ) → length order ≡ 64 → RelatedRows (t .count) (t .priorities) lent rows → Falling (t .count) (t .priorities) order
+      → Ready (t .count) rows (t .sizes) order
+  rows-ready lent rows order long related falling =
+      falling-ready few-read (related .row-count) sizes-long long (λ i h. sizes-light i) falling (rows-rising lent rows related)

@@ -1,0 +1,95 @@
+use Rattle.preempt.proofs.Accepted.{shape}
+use Prim.Native.Nat.{ℕ, _*_, _-_, _≤_, _<_}
+use mathlib.Core.List.{[]}
+use mathlib.Core.Path.{_≡_, ap, subst, _∙_}
+use lib.ListN.{length, getD}
+use Rattle.rules.specs.Blocks.{records}
+use Rattle.rules.specs.Records.{numberOf, transactions as Records·transactions}
+use Rattle.preempt.proofs.Accepted.{transaction-record}
+use Rattle.stack.specs.Figures.{OwnPaths}
+use Rattle.stack.proofs.Owning.{members-inside, members-own, own-none, own-more}
+use native.Mathlib.Omega.{arith}
+use borrow.Author.Needs.{needs}
+use Rattle.stack.proofs.own.transaction_bound.Statement.{statement}
+use Rattle.stack.proofs.own.transaction_bound.Tie as tie
+use Rattle.stack.proofs.own.transaction_bound.Reads as reads
+use Rattle.stack.proofs.own.transaction_bound.Lts as lts
+use Rattle.image.proofs.bytes.two_bytes.Reads as two-bytes-reads
+use Rattle.image.proofs.records.record_at.Reads as record-at-reads
+use Rattle.stack.proofs.path.path_bound.Reads as path-bound-reads
+use Rattle.stack.proofs.places.members.Reads as members-reads
+use Rattle.table.proofs.count.count_kind.Reads as count-kind-reads
+
+abbrev Inv-loop : tie.InvT-loop
+Inv-loop image numbers rows sizes order count transactions total₀ t₀ total t = (t ≤ transactions) × (total ≤ 4294967295 * t) × OwnPaths count rows sizes numbers (Records·transactions (records image)) t total
+
+abbrev μ-loop : tie.MeasureT-loop
+μ-loop image numbers rows sizes order count transactions total₀ t₀ total t = transactions - t
+
+count-kind-requires : tie.Need-count-kind-requires Inv-loop μ-loop
+count-kind-requires c κs = search needs
+
+loop-holds : tie.Need-loop-holds Inv-loop μ-loop
+loop-holds c =
+    let a = c .before .before .before .before .before .before .args in
+    (omega arith, omega arith, own-none (a .count) (a .rows .now) (a .sizes .now) (a .numbers .now) (Records·transactions (records (a .image .now))))
+
+record-at-requires : tie.Need-record-at-requires Inv-loop μ-loop
+record-at-requires c κs = search needs
+
+two-bytes-requires : tie.Need-two-bytes-requires Inv-loop μ-loop
+two-bytes-requires c κs = search needs
+
+members-requires : tie.Need-members-requires Inv-loop μ-loop
+members-requires c κs = (c .before .before .before .before .before .before .before .before .before .before .pre .1 .0 .few, omega (arith, c .before .before .before .before .before .before .before .before .before .before .pre .1 .0 .few, c .before .before .before .before .before .before .before .before .before .before .pre .1 .1))
+
+path-bound-requires : tie.Need-path-bound-requires Inv-loop μ-loop
+path-bound-requires c κs = (c .before .before .before .before .before .before .before .before .before .before .before .pre .1 .0, members-inside (c .before .before .before .before .before .before .before .before .before .before .before .args .numbers .now) (c .before .before .before .before .before .before .before .before .before .before .before .args .count) (c .before .two-bytes .result) (c .members .result) (c .members .ensures))
+
+cast-bound : tie.Need-cast-bound Inv-loop μ-loop
+cast-bound c = omega (arith, c .path-bound .ok)
+
+add-total : tie.Need-add-total Inv-loop μ-loop
+add-total c = omega (arith, c .path-bound .ok, c .before .before .before .before .before .loop .inv .1, c .before .before .before .before .loop-test .taken, c .before .before .before .before .before .before .count-kind .ensures .0, shape (c .before .before .before .before .before .before .before .before .before .before .before .before .args .image .now) (c .before .before .before .before .before .before .before .before .before .before .before .shared-slice-known .given) (c .before .before .before .before .before .before .before .before .before .before .before .before .pre .0) .few-transactions)
+
+add-t : tie.Need-add-t Inv-loop μ-loop
+add-t c = search needs
+
+loop-less : tie.Need-loop-less Inv-loop μ-loop
+loop-less c = search needs
+
+loop-again : tie.Need-loop-again Inv-loop μ-loop
+loop-again c =
+    let a = c .before .before .before .before .before .before .before .before .before .before .before .before .args in
+    let image = a .image .now in
+    let listed = Records·transactions (records image) in
+    let inside : c .before .before .before .before .before .loop .t < length listed = omega (arith, c .before .before .before .before .before .before .count-kind .ensures .0, c .before .before .before .before .loop-test .taken) in
+    let here : c .before .before .two-bytes .result ≡ numberOf (getD listed (c .before .before .before .before .before .loop .t) []) = c .before .before .two-bytes .ensures .0 ∙ ap numberOf (c .before .before .before .record-at .ensures ∙ transaction-record image (c .before .before .before .before .before .before .before .before .before .before .before .shared-slice-known .given) (c .before .before .before .before .before .before .before .before .before .before .before .before .pre .0) (c .before .before .before .before .before .loop .t) inside) in
+    let bound = members-own (a .count) (a .rows .now) (a .sizes .now) (a .numbers .now) listed (c .before .before .before .before .before .loop .t) (c .before .before .two-bytes .result) (c .before .members .result) (c .path-bound .result) here (c .before .members .ensures) (c .path-bound .ensures) in
+    (omega (arith, c .before .before .before .before .loop-test .taken), omega (arith, c .path-bound .ok), own-more (a .count) (a .rows .now) (a .sizes .now) (a .numbers .now) listed (c .before .before .before .before .before .loop .t) (c .before .before .before .before .before .loop .total) (c .path-bound .result) (c .before .before .before .before .before .loop .inv .2) bound)
+
+returns : tie.Need-returns Inv-loop μ-loop
+returns c =
+    let a = c .before .before .before .before .before .before .before .before .args in
+    let listed = Records·transactions (records (a .image .now)) in
+    let end : c .before .loop .t ≡ length listed = omega (arith, c .before .before .count-kind .ensures .0, c .loop-test .left, c .before .loop .inv .0) in
+    subst (λ (n : ℕ). OwnPaths (a .count) (a .rows .now) (a .sizes .now) (a .numbers .now) listed n (c .before .loop .total)) end (c .before .loop .inv .2)
+
+pub transaction-bound-spec : {M : Type 1} → statement M
+transaction-bound-spec =
+    tie.close
+    (tie.spec
+    Inv-loop
+    μ-loop
+    count-kind-requires
+    loop-holds
+    record-at-requires
+    two-bytes-requires
+    members-requires
+    path-bound-requires
+    cast-bound
+    add-total
+    add-t
+    loop-less
+    loop-again
+    returns)
