@@ -1,4 +1,5 @@
 // A test program: reads a stream of cases (docs/STREAM.md) from standard input and prints the answer to each.
+mod bounds;
 mod digest;
 mod maps;
 mod print;
@@ -18,12 +19,15 @@ fn answer_next() -> bool {
         return false;
     }
     let image_bytes = four_bytes(&header, 4) as usize;
+    let read_rows = four_bytes(&header, 12) as usize;
     let written_rows = four_bytes(&header, 16) as usize;
+    let id_count = four_bytes(&header, 20) as usize;
     let call = header[0];
     match call {
         b'T' => verdicts::answer(b'T', image_bytes),
         b'P' => verdicts::answer(b'P', image_bytes),
         b'M' => maps::answer(image_bytes, written_rows),
+        b'B' => bounds::answer(image_bytes, read_rows, id_count),
         _ => false,
     }
 }

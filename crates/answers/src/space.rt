@@ -4,6 +4,7 @@ ghost use mathlib.Core.Bool.{true};
 ghost use Prim.Native.Nat.{_≤_};
 ghost use lib.ListN.{length};
 use image::bytes::four_bytes;
+use image::bytes::two_bytes;
 use libc::STDIN_FILENO;
 
 // Room for the longest image. The promise gives only the length, which lending it as a slice needs.
@@ -18,6 +19,13 @@ pub fn rows() -> [u64; 80]
     ensures { λ r. ⌜ 80 ≡ length r ⌝ }
 {
     [0; 80]
+}
+
+// Room for the most ids.
+pub fn ids() -> [u16; 96]
+    ensures { λ r. ⌜ 96 ≡ length r ⌝ }
+{
+    [0; 96]
 }
 
 // Room for the bytes of the longest map.
@@ -72,5 +80,34 @@ pub fn fill_rows(rows: &mut [u64], count: usize) -> bool
         return false;
     }
     set_rows(rows, &bytes, count);
+    true
+}
+
+// Sets the first count ids from their bytes.
+fn set_ids(ids: &mut [u16], bytes: &[u8], count: usize)
+    requires { ⌜ (count ≤ length (now ids)) × (count ≤ 96) ⌝ }
+{
+    let mut k: usize = 0;
+    while k < count {
+        ids[k] = two_bytes(bytes, 2 * k) as u16;
+        k += 1;
+    }
+}
+
+// Reads count ids to the start of a room, or says that the stream or the room ends before.
+pub fn fill_ids(ids: &mut [u16], count: usize) -> bool
+    ensures { λ r. ⌜ (r ≡ true → count ≤ length (now (ids .exit))) ⌝ }
+{
+    if 96 < count {
+        return false;
+    }
+    if ids.len() < count {
+        return false;
+    }
+    let mut bytes = row_bytes();
+    if !fill(&mut bytes, 2 * count) {
+        return false;
+    }
+    set_ids(ids, &bytes, count);
     true
 }

@@ -1,10 +1,10 @@
 -- The answers of a bound call: refused by the table, by a short map or room, by a bound too large, or found.
 use Prim.Native.Nat.{ℕ, _≤_, _<_}
-use mathlib.Core.List.{List, [], _∷_, map}
-use mathlib.Core.Bool.{Bool, true, false, _||_}
+use mathlib.Core.List.{List, [], _∷_}
+use mathlib.Core.Bool.{true, false, _||_}
 use mathlib.Core.Path.{_≡_, refl, sym, ap, _∙_}
 use native.Mathlib.Omega.{arith}
-use borrow.Author.Tests.{lt-ltb, le-ltb}
+use borrow.Author.Tests.{le-ltb}
 use lib.ListN.{length, getD, take}
 use lib.Seq.{getD-take, length-take-le}
 use lib.Dec.{ltb}
@@ -13,9 +13,9 @@ use Rattle.rules.specs.declared.Verdict.{Verdict}
 use Rattle.rules.specs.Blocks.{records}
 use Rattle.rules.specs.Records.{taskCount}
 use Rattle.rules.specs.Chains.{chainIds, related}
-use Rattle.rules.specs.Refusals.{fine, accepted, refusal, passes, tableVerdict}
+use Rattle.rules.specs.Refusals.{accepted, refusal, passes, tableVerdict}
 use Rattle.rules.specs.Calls.{over, BoundCall, boundVerdict, boundRefusal, boundsFound, passesAny}
-use Rattle.rules.proofs.Numbers.{either, never}
+use Rattle.rules.proofs.Numbers.{never}
 use Rattle.stack.specs.declared.call.Found.{Found}
 use Rattle.stack.specs.Figures.{figuresIn, FoundFor}
 use Rattle.stack.proofs.Figures.{Within, chain-within}
@@ -26,7 +26,7 @@ module _ (image lent ids : List ℕ) where
   refused-by v e no′ =
       record {
         refused = λ h. (ap boundRefusal (sym e), refl);
-        worked = λ h. never (accepted v) (ap accepted (sym e) ∙ h) no′
+        worked = λ h. never (accepted v) (ap accepted (sym e) ∙ h) no′;
       }
 
   pub by-table : accepted (tableVerdict image) ≡ false → BoundCall image lent ids (boundRefusal (tableVerdict image)) ids
@@ -51,7 +51,7 @@ module _ (image lent ids : List ℕ) where
     worked-out answer later passed fits =
         record {
           refused = λ h. never (accepted (boundVerdict image lent ids)) no-fault h;
-          worked = λ h. record { figures = figuresIn found; right = right .right; passed = passed; found = fits }
+          worked = λ h. record { figures = figuresIn found; right = right .right; passed = passed; found = fits };
         }
 
     -- whether a bound is too large is asked of what was found
@@ -75,15 +75,15 @@ module _ (image lent ids : List ℕ) where
           path = found .path;
           transactions = found .transactions;
           levels = found .levels;
-          length = found .length
+          length = found .length;
         })
         later
     answered later count small counted long written =
         worked-out _ later
         (λ h. never (passesAny (records image) (figuresIn found)) h (sym passes-same ∙ small))
         (λ h.
-          let size : length (take (found .length) (found .places)) ≡ found .length = length-take-le (found .length) (found .places) (omega (arith, right .room)) in
-          (rw (counted, right .chain, size), written))
+        let size : length (take (found .length) (found .places)) ≡ found .length = length-take-le (found .length) (found .places) (omega (arith, right .room)) in
+        (rw (counted, right .chain, size), written))
 
     -- every place of the chain is a task's
     pub places-below : (few : taskCount (records image) ≤ 64) (k : ℕ) → length (found .places) ≡ 64 → k < found .length → getD (found .places) k 0 < 64

@@ -138,10 +138,10 @@ module _ (rs : List (List ℕ)) (lent : List ℕ) (t : Tasks) (shape : Shape rs)
         record {
           each = own .each;
           bound = λ k l.
-            largest-as (taskCount rs) (related rs lent) (ownTask (t .transactions) (transactions rs) k) (inTransaction rs k) (sizeAt rs) (own .each k)
-            (λ i h. ap (λ (n : ℕ). eqb n (numberOf (getD (transactions rs) k []))) (numbers-same i))
-            (over-relation (λ n R c. Path n R c × All (ownTask (t .transactions) (transactions rs) k) c) (own .each k) (own .bound k l));
-          total = own .total
+              largest-as (taskCount rs) (related rs lent) (ownTask (t .transactions) (transactions rs) k) (inTransaction rs k) (sizeAt rs) (own .each k)
+              (λ i h. ap (λ (n : ℕ). eqb n (numberOf (getD (transactions rs) k []))) (numbers-same i))
+              (over-relation (λ n R c. Path n R c × All (ownTask (t .transactions) (transactions rs) k) c) (own .each k) (own .bound k l));
+          total = own .total;
         }
 
   -- the largest sizes by priority, added up, over any priorities and sizes
@@ -160,12 +160,12 @@ module _ (rs : List (List ℕ)) (lent : List ℕ) (t : Tasks) (shape : Shape rs)
   found-for rows found same over =
       record {
         right =
-          record {
-            chain = chain-found rows same (figuresIn found .chain) (over .heaviest);
-            path = path-found rows same (found .path) (over .path);
-            transactions = own-found rows same (found .transactions) (over .own);
-            levels = over .levels ∙ levels-found
-          };
+            record {
+              chain = chain-found rows same (figuresIn found .chain) (over .heaviest);
+              path = path-found rows same (found .path) (over .path);
+              transactions = own-found rows same (found .transactions) (over .own);
+              levels = over .levels ∙ levels-found;
+            };
         chain = over .weighs ∙ ap (λ (S : ℕ → ℕ). weight S (figuresIn found .chain)) sizes-same;
-        room = over .room
+        room = over .room;
       }

@@ -1,7 +1,7 @@
 -- The path bounds of each transaction's own tasks, added up one by one.
-use Prim.Native.Nat.{ℕ, _+_, _≤_, _<_}
+use Prim.Native.Nat.{ℕ, _+_}
 use mathlib.Core.List.{List, []}
-use mathlib.Core.Bool.{Bool, true, false, cond, _&&_}
+use mathlib.Core.Bool.{cond}
 use mathlib.Core.Path.{_≡_, refl, sym, ap, _∙_}
 use native.Mathlib.Omega.{arith}
 use borrow.Author.Tests.{lt-ltb, ltb-true, eqb-true, eqb-false, eq-eqb, ne-eqb}
@@ -44,15 +44,15 @@ module _ (n : ℕ) (rows sizes numbers : List ℕ) (listed : List (List ℕ)) wh
       record {
         each = each;
         bound = λ k h.
-          either (eqb k t)
-          (λ u.
+            either (eqb k t)
+            (λ u.
             let same = eqb-true k t u in
             rw (same, eq-eqb t t refl) more)
-          (λ u. rw u (own .bound k (omega (arith, eqb-false k t u))));
+            (λ u. rw u (own .bound k (omega (arith, eqb-false k t u))));
         total =
-          ap (λ (x : ℕ). x + r) (own .total ∙ sumTo-ext (own .each) each t (λ k h. rw (ne-eqb k t (λ e. omega arith))))
-          ∙ ap (λ (x : ℕ). sumTo each t + x) last
-          ∙ sym (sumTo-step each t)
+            ap (λ (x : ℕ). x + r) (own .total ∙ sumTo-ext (own .each) each t (λ k h. rw (ne-eqb k t (λ e. omega arith))))
+            ∙ ap (λ (x : ℕ). sumTo each t + x) last
+            ∙ sym (sumTo-step each t);
       }
     where
       each : ℕ → ℕ

@@ -1,20 +1,19 @@
 -- What an accepted table gives that the bounds ask: sizes and priorities in range, arrays of 64, rows that rise.
 use Prim.Native.Nat.{ℕ, _≤_, _<_}
 use mathlib.Core.List.{List, []}
-use mathlib.Core.Bool.{Bool, true, _&&_}
+use mathlib.Core.Bool.{true, _&&_}
 use mathlib.Core.Path.{_≡_, sym, ap, _∙_}
 use native.Mathlib.Omega.{arith}
 use borrow.Author.Tests.{ltb-true}
 use lib.ListN.{length, getD}
-use lib.Dec.{T, ltb}
+use lib.Dec.{ltb}
 use mir.Val.{Fits}
 use mir.Syntax.{w8}
-use Rattle.rules.specs.Numbers.{Bytes}
 use Rattle.rules.specs.Blocks.{records}
 use Rattle.rules.specs.Records.{tasks, taskCount, taskAt}
 use Rattle.rules.specs.Refusals.{accepted, tableVerdict}
 use Rattle.rules.specs.Preempt.{cell}
-use Rattle.rules.specs.Chains.{sizeAt, idAt, priorityAt}
+use Rattle.rules.specs.Chains.{priorityAt}
 use Rattle.rules.proofs.Tests.{both-first, both-second}
 use Rattle.rules.proofs.FourBounds.Order.{T-true}
 use Rattle.rules.proofs.Table.Ranges.{TaskRanges, task-ranges, le2-small}
@@ -25,7 +24,7 @@ use Rattle.preempt.proofs.Accepted.{shape}
 use Rattle.preempt.proofs.Columns.{column-length}
 use Rattle.stack.specs.Order.{Falling}
 use Rattle.stack.specs.Setting.{Ready, Rising}
-use Rattle.stack.specs.Related.{RelatedRows, relatedIn}
+use Rattle.stack.specs.Related.{RelatedRows}
 use Rattle.stack.proofs.Inserting.{falling-ready}
 use Rattle.stack.proofs.Columns.{field-total}
 
@@ -70,10 +69,10 @@ module _ (image : List ℕ) (known : (k : ℕ) → Fits w8 (getD image k 0)) (ri
       record {
         priority-count = priorities-long;
         rises = λ i j h k may.
-          let both = sym (related .cells i j) ∙ T-true (cell rows i j) may in
-          ltb-true (getD (t .priorities) i 0) (getD (t .priorities) j 0) (both-first (ltb (getD (t .priorities) i 0) (getD (t .priorities) j 0)) (cell lent i j) (both-second (ltb i (t .count) && ltb j (t .count)) _ both));
+            let both = sym (related .cells i j) ∙ T-true (cell rows i j) may in
+            ltb-true (getD (t .priorities) i 0) (getD (t .priorities) j 0) (both-first (ltb (getD (t .priorities) i 0) (getD (t .priorities) j 0)) (cell lent i j) (both-second (ltb i (t .count) && ltb j (t .count)) _ both));
         least = λ i h. omega (arith, priority-is i, ranges i h .some-priority);
-        most = λ i h. omega (arith, priority-is i, ranges i h .most-priority)
+        most = λ i h. omega (arith, priority-is i, ranges i h .most-priority);
       }
 
   pub rows-ready : (lent rows order : List ℕ) → length order ≡ 64 → RelatedRows (t .count) (t .priorities) lent rows → Falling (t .count) (t .priorities) order

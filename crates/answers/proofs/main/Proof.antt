@@ -1,3 +1,4 @@
+-- The number of cases that may still come falls.
 use Prim.Native.Nat.{_≤_}
 use borrow.Author.Needs.{needs}
 use Rattle.answers.proofs.main.Statement.{statement}

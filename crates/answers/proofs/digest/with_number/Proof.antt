@@ -1,3 +1,4 @@
+-- The loop keeps the digest below its modulus.
 use Prim.Native.Nat.{_<_}
 use borrow.Author.Needs.{needs}
 use Rattle.answers.proofs.digest.with_number.Statement.{statement}

@@ -1,3 +1,4 @@
+-- What was not read leaves nothing to promise; the part handed over is as long as was asked.
 use mathlib.Core.Path.{refl, sym}
 use mathlib.Core.Bool.{false}
 use lib.Seq.{length-take-le}

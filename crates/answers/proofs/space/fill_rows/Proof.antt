@@ -1,3 +1,4 @@
+-- A refusal leaves nothing to promise, and a map keeps its length.
 use mathlib.Core.Path.{refl}
 use mathlib.Core.Bool.{false}
 use Rattle.rules.proofs.Numbers.{never}

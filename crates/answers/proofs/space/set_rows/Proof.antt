@@ -1,3 +1,4 @@
+-- The loop keeps the length of the map.
 use Prim.Native.Nat.{_-_, _≤_}
 use mathlib.Core.Path.{_≡_}
 use lib.ListN.{length}

@@ -1,18 +1,13 @@
+-- An accepted table gives what the bounds ask, and what was found over its rows is right for the table and the map.
 use mathlib.Core.Path.{_≡_}
 use lib.ListN.{length}
 use Rattle.rules.specs.Blocks.{records}
 use Rattle.preempt.proofs.Accepted.{shape}
 use Rattle.stack.proofs.Figures.{rows-same, found-for}
 use Rattle.stack.proofs.Readying.{few-read, priorities-long, numbers-long, rows-rising, rows-ready}
-use native.Mathlib.Omega.{arith}
 use borrow.Author.Needs.{needs}
 use Rattle.stack.proofs.call.find.Statement.{statement}
 use Rattle.stack.proofs.call.find.Tie as tie
-use Rattle.stack.proofs.call.find.Reads as reads
-use Rattle.stack.proofs.call.find.Lts as lts
-use Rattle.stack.proofs.call.find_over.Reads as find-over-reads
-use Rattle.stack.proofs.order.by_falling_priority.Reads as by-falling-priority-reads
-use Rattle.stack.proofs.related.related_rows.Reads as related-rows-reads
 
 slice-aggregate-related-rows : tie.Need-slice-aggregate-related-rows
 slice-aggregate-related-rows c = search needs

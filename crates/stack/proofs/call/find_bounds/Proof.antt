@@ -1,3 +1,4 @@
+-- Each way out is one of the four answers of a bound call.
 use borrow.Author.Tests.{ltb-false}
 use Rattle.rules.specs.Refusals.{passes}
 use Rattle.rules.proofs.Tests.{neither-first, neither-second}
@@ -21,14 +22,6 @@ use native.Mathlib.Omega.{arith}
 use borrow.Author.Needs.{needs}
 use Rattle.stack.proofs.call.find_bounds.Statement.{statement}
 use Rattle.stack.proofs.call.find_bounds.Tie as tie
-use Rattle.stack.proofs.call.find_bounds.Reads as reads
-use Rattle.stack.proofs.call.find_bounds.Lts as lts
-use Rattle.preempt.proofs.tasks.read_tasks.Reads as read-tasks-reads
-use Rattle.stack.proofs.call.find.Reads as find-reads
-use Rattle.stack.proofs.call.passes_any.Reads as passes-any-reads
-use Rattle.stack.proofs.call.refused.Reads as refused-reads
-use Rattle.stack.proofs.call.write_ids.Reads as write-ids-reads
-use Rattle.table.proofs.table_verdict.Reads as table-verdict-reads
 
 table-verdict-requires : tie.Need-table-verdict-requires
 table-verdict-requires c κs = search needs

@@ -1,19 +1,12 @@
+-- Each figure is what its function promises; a set of all places leaves the path bound itself.
 use mathlib.Core.Path.{sym, _∙_}
 use borrow.Author.Tests.{ltb-true}
 use Rattle.rules.specs.Preempt.{cell}
 use Rattle.stack.specs.Paths.{sizeIn}
 use Rattle.stack.proofs.Figures.{largest-all}
-use native.Mathlib.Omega.{arith}
 use borrow.Author.Needs.{needs}
 use Rattle.stack.proofs.call.find_over.Statement.{statement}
 use Rattle.stack.proofs.call.find_over.Tie as tie
-use Rattle.stack.proofs.call.find_over.Reads as reads
-use Rattle.stack.proofs.call.find_over.Lts as lts
-use Rattle.stack.proofs.levels.level_bound.Reads as level-bound-reads
-use Rattle.stack.proofs.own.transaction_bound.Reads as transaction-bound-reads
-use Rattle.stack.proofs.path.path_bound.Reads as path-bound-reads
-use Rattle.stack.proofs.places.all_below.Reads as all-below-reads
-use Rattle.stack.proofs.search.heaviest_chain.Reads as heaviest-chain-reads
 
 heaviest-chain-requires : tie.Need-heaviest-chain-requires
 heaviest-chain-requires c κs = search needs
@@ -40,7 +33,7 @@ returns c =
       room = best .room;
       path = largest-all (a .count) (cell (a .rows .now)) (c .before .before .before .before .all-below .result) (sizeIn (a .sizes .now)) (c .before .before .before .path-bound .result) (c .before .before .before .before .all-below .ensures) (c .before .before .before .path-bound .ensures);
       own = c .before .before .transaction-bound .ensures;
-      levels = c .before .level-bound .ensures
+      levels = c .before .level-bound .ensures;
     }
 
 pub find-over-spec : {M : Type 1} → statement M

@@ -1,3 +1,4 @@
+-- Each test in turn is that of the definition.
 use borrow.Author.Tests.{lt-ltb, le-ltb}
 use borrow.Author.Needs.{needs}
 use Rattle.stack.proofs.call.passes_any.Statement.{statement}

@@ -1,3 +1,4 @@
+-- The loop keeps that the ids of the places passed are written over the start of the room.
 use mathlib.Core.List.{List}
 use lib.ListN.{set}
 use Prim.Native.Nat.{ℕ, _-_, _≤_}

@@ -1,3 +1,4 @@
+-- The loop keeps the bounds of the transactions passed and their sum.
 use Rattle.preempt.proofs.Accepted.{shape}
 use Prim.Native.Nat.{ℕ, _*_, _-_, _≤_, _<_}
 use mathlib.Core.List.{[]}
@@ -12,13 +13,6 @@ use native.Mathlib.Omega.{arith}
 use borrow.Author.Needs.{needs}
 use Rattle.stack.proofs.own.transaction_bound.Statement.{statement}
 use Rattle.stack.proofs.own.transaction_bound.Tie as tie
-use Rattle.stack.proofs.own.transaction_bound.Reads as reads
-use Rattle.stack.proofs.own.transaction_bound.Lts as lts
-use Rattle.image.proofs.bytes.two_bytes.Reads as two-bytes-reads
-use Rattle.image.proofs.records.record_at.Reads as record-at-reads
-use Rattle.stack.proofs.path.path_bound.Reads as path-bound-reads
-use Rattle.stack.proofs.places.members.Reads as members-reads
-use Rattle.table.proofs.count.count_kind.Reads as count-kind-reads
 
 abbrev Inv-loop : tie.InvT-loop
 Inv-loop image numbers rows sizes order count transactions total₀ t₀ total t = (t ≤ transactions) × (total ≤ 4294967295 * t) × OwnPaths count rows sizes numbers (Records·transactions (records image)) t total

@@ -1,0 +1,104 @@
+-- What was read fills the parts that are lent.
+use mathlib.Core.Path.{sym}
+use borrow.Author.Tests.{not-false}
+use lib.Seq.{length-take-le}
+use borrow.Author.Needs.{needs}
+use Rattle.answers.proofs.bounds.answer_in.Statement.{statement}
+use Rattle.answers.proofs.bounds.answer_in.Tie as tie
+
+fill-requires : tie.Need-fill-requires
+fill-requires c κs = search needs
+
+same-length : tie.Need-same-length
+same-length c = search needs
+
+returns : tie.Need-returns
+returns c = search needs
+
+fill-rows-requires : tie.Need-fill-rows-requires
+fill-rows-requires c κs = search needs
+
+same-length-2 : tie.Need-same-length-2
+same-length-2 c = search needs
+
+same-length-3 : tie.Need-same-length-3
+same-length-3 c = search needs
+
+returns-2 : tie.Need-returns-2
+returns-2 c = search needs
+
+fill-ids-requires : tie.Need-fill-ids-requires
+fill-ids-requires c κs = search needs
+
+same-length-4 : tie.Need-same-length-4
+same-length-4 c = search needs
+
+same-length-5 : tie.Need-same-length-5
+same-length-5 c = search needs
+
+same-length-6 : tie.Need-same-length-6
+same-length-6 c = search needs
+
+returns-3 : tie.Need-returns-3
+returns-3 c = search needs
+
+slice-reshare-prefix-answer-call : tie.Need-slice-reshare-prefix-answer-call
+slice-reshare-prefix-answer-call c = c .before .before .before .before .before .before .before .before .before .before .before .before .before .fill .ensures (not-false (c .before .before .before .before .before .before .before .before .before .before .before .before .before .fill .result) (c .before .before .before .before .before .before .before .before .before .before .if1 .left))
+
+slice-aggregate-answer-call : tie.Need-slice-aggregate-answer-call
+slice-aggregate-answer-call c = sym (length-take-le (c .before .before .before .before .before .before .before .before .before .before .before .before .before .before .before .before .before .before .before .args .image-bytes) (c .before .before .before .before .before .before .before .before .before .before .before .before .before .before .fill .last .0) (c .before .before .before .before .before .before .before .before .before .before .before .before .before .before .fill .ensures (not-false (c .before .before .before .before .before .before .before .before .before .before .before .before .before .before .fill .result) (c .before .before .before .before .before .before .before .before .before .before .before .if1 .left))))
+
+slice-reshare-prefix-answer-call-2 : tie.Need-slice-reshare-prefix-answer-call-2
+slice-reshare-prefix-answer-call-2 c = c .before .before .before .before .before .before .before .before .before .fill-rows .ensures (not-false (c .before .before .before .before .before .before .before .before .before .fill-rows .result) (c .before .before .before .before .before .before .if2 .left))
+
+slice-aggregate-answer-call-2 : tie.Need-slice-aggregate-answer-call-2
+slice-aggregate-answer-call-2 c = sym (length-take-le (c .before .before .before .before .before .before .before .before .before .before .before .before .before .before .before .before .before .before .before .before .args .row-count) (c .before .before .before .before .before .before .before .before .before .before .fill-rows .last .0) (c .before .before .before .before .before .before .before .before .before .before .fill-rows .ensures (not-false (c .before .before .before .before .before .before .before .before .before .before .fill-rows .result) (c .before .before .before .before .before .before .before .if2 .left))))
+
+slice-relend-prefix-answer-call : tie.Need-slice-relend-prefix-answer-call
+slice-relend-prefix-answer-call c = c .before .before .before .before .before .fill-ids .ensures (not-false (c .before .before .before .before .before .fill-ids .result) (c .before .before .if3 .left))
+
+slice-aggregate-answer-call-3 : tie.Need-slice-aggregate-answer-call-3
+slice-aggregate-answer-call-3 c = sym (length-take-le (c .before .before .before .before .before .before .before .before .before .before .before .before .before .before .before .before .before .before .before .before .before .args .id-count) (c .before .before .before .before .before .before .fill-ids .last .0) (c .before .before .before .before .before .before .fill-ids .ensures (not-false (c .before .before .before .before .before .before .fill-ids .result) (c .before .before .before .if3 .left))))
+
+answer-call-requires : tie.Need-answer-call-requires
+answer-call-requires c κs = search needs
+
+same-length-7 : tie.Need-same-length-7
+same-length-7 c = search needs
+
+same-length-8 : tie.Need-same-length-8
+same-length-8 c = search needs
+
+same-length-9 : tie.Need-same-length-9
+same-length-9 c = search needs
+
+returns-4 : tie.Need-returns-4
+returns-4 c = search needs
+
+pub answer-in-spec : {M : Type 1} → statement M
+answer-in-spec =
+    tie.close
+    (tie.spec
+    fill-requires
+    same-length
+    returns
+    fill-rows-requires
+    same-length-2
+    same-length-3
+    returns-2
+    fill-ids-requires
+    same-length-4
+    same-length-5
+    same-length-6
+    returns-3
+    slice-reshare-prefix-answer-call
+    slice-aggregate-answer-call
+    slice-reshare-prefix-answer-call-2
+    slice-aggregate-answer-call-2
+    slice-relend-prefix-answer-call
+    slice-aggregate-answer-call-3
+    answer-call-requires
+    same-length-7
+    same-length-8
+    same-length-9
+    returns-4)
