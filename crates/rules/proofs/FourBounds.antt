@@ -13,9 +13,10 @@ use Rattle.rules.specs.Records.{taskCount, taskAt, transactions, listed}
 use Rattle.rules.specs.Chains.{related, sizeAt, Figures, FiguresOf}
 use Rattle.rules.specs.Refusals.{accepted, tableVerdict, shortRefusal}
 use Rattle.rules.specs.Calls.{boundVerdict, passesAny, boundRefusal, boundsFound, BoundCall, BoundsWorkedOut}
+use Rattle.rules.proofs.Refusals.{accepted-both}
 use Rattle.rules.proofs.Numbers.{either}
 use Rattle.rules.proofs.FourBounds.Order.{chain≤path, path≤levels, chain≤transactions}
-use Rattle.rules.proofs.FourBounds.Accepted.{accepted-both, accepted-listed}
+use Rattle.rules.proofs.FourBounds.Accepted.{accepted-listed}
 pub mod Order
 pub mod Accepted
 pub mod Unique

@@ -186,3 +186,31 @@ set-next f l k v inside known here i h =
     (λ t.
     let e : i ≡ k = omega (arith, ltb-false i k t) in
     rw e (getD-set-same l k v 0 inside ∙ here))
+
+-- a sum over more numbers is no smaller
+pub sumTo-longer : (f : ℕ → ℕ) (p m : ℕ) → p ≤ m → sumTo f p ≤ sumTo f m
+unfolding sumTo
+sumTo-longer f p zero h = let e : p ≡ 0 = omega arith in rw e (omega arith)
+sumTo-longer f p (suc m) h =
+    either (ltb m p)
+    (λ t.
+    let e : p ≡ suc m = omega (arith, ltb-true m p t) in
+    rw e (omega arith))
+    (λ t. omega (arith, sumTo-longer f p m (ltb-false m p t)))
+
+-- a sum whose terms are no smaller
+pub sumTo-least : (f g : ℕ → ℕ) (n : ℕ) → ((t : ℕ) → t < n → g t ≤ f t) → sumTo g n ≤ sumTo f n
+unfolding sumTo
+sumTo-least f g zero all = omega arith
+sumTo-least f g (suc n) all = omega (arith, all n (omega arith), sumTo-least f g n (λ t h. all t (omega arith)))
+
+-- and one of them larger by x
+pub sumTo-more : (f g : ℕ → ℕ) (n k x : ℕ) → ((t : ℕ) → g t ≤ f t) → k < n → g k + x ≤ f k → sumTo g n + x ≤ sumTo f n
+unfolding sumTo
+sumTo-more f g zero k x all h more = absurd (omega arith)
+sumTo-more f g (suc n) k x all h more =
+    either (ltb k n)
+    (λ t. omega (arith, all n, sumTo-more f g n k x all (ltb-true k n t) more))
+    (λ t.
+    let e : n ≡ k = omega (arith, ltb-false k n t) in
+    rw e (omega (arith, sumTo-least f g k (λ i l. all i))))

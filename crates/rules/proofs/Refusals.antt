@@ -23,6 +23,9 @@ accepted-first v w h = either (accepted v) (λ t. t) (λ t. rw t at h)
 pub accepted-second : (v w : Verdict) → accepted (orElse v w) ≡ true → accepted w ≡ true
 accepted-second v w h = rw (accepted-first v w h) at h
 
+pub accepted-both : (v w : Verdict) → accepted (orElse v w) ≡ true → (accepted v ≡ true) × (accepted w ≡ true)
+accepted-both v w h = (accepted-first v w h, accepted-second v w h)
+
 -- two checks that find nothing, one after the other, find nothing
 pub fine-both : (v w : Verdict) → v ≡ fine → w ≡ fine → orElse v w ≡ fine
 fine-both v w p q = rw (p, q)

@@ -4,3 +4,4 @@ pub mod Ranges
 pub mod Order
 pub mod Shape
 pub mod Listed
+pub mod Standing

@@ -3,7 +3,7 @@ use Prim.Native.Nat.{ℕ}
 use mathlib.Core.Bool.{Bool, true, false, _&&_, _||_, not}
 use mathlib.Core.Path.{_≡_, refl}
 use borrow.Author.Tests.{eqb-true, eq-eqb, not-false}
-use lib.Dec.{eqb}
+use lib.Dec.{T, eqb}
 use Rattle.rules.proofs.Numbers.{never}
 
 -- where neither of two holds, the first does not, and the second does not
@@ -38,3 +38,21 @@ same-numbers x y h = eqb-true x y (not-false (eqb x y) h)
 
 pub not-different : (x y : ℕ) → x ≡ y → not (eqb x y) ≡ false
 not-different x y h = not-fails (eqb x y) (eq-eqb x y h)
+
+-- a test that holds has the value true, and the other way round
+pub T-true : (b : Bool) → T b → b ≡ true
+T-true true t = refl
+T-true false t = absurd t
+
+pub true-T : (b : Bool) → b ≡ true → T b
+true-T true e = tt
+true-T false e = never false e refl
+
+-- a test of two halves passes where both do
+pub both : (a b : Bool) → T (a && b) → T a × T b
+both true b t = (tt, t)
+both false b t = absurd t
+
+pub both-pass : (a b : Bool) → T a → T b → T (a && b)
+both-pass true b s t = t
+both-pass false b s t = s

@@ -6,6 +6,7 @@ use mathlib.Core.Path.{_≡_, refl, sym, ap, subst, fun-ext, _∙_}
 use borrow.Author.Tests.{lt-ltb}
 use lib.ListN.{length, getD}
 use lib.Dec.{ltb, eqb}
+use Rattle.rules.proofs.Tests.{T-true, true-T}
 use Rattle.rules.specs.Records.{numberOf, transactions, taskCount, taskAt}
 use Rattle.rules.specs.Numbers.{sumTo, largestTo}
 use Rattle.rules.specs.Preempt.{cell}
@@ -19,7 +20,6 @@ use Rattle.stack.specs.Figures.{ownTask, OwnPaths, figuresIn, FoundOver,
 use Rattle.stack.proofs.Columns.{field-total}
 use Rattle.rules.specs.Chains.{weight, Chain, Path, All, Before, Largest, Heaviest, related, sizeAt, idAt, priorityAt, inTransaction, TransactionBound, levelBound}
 use Rattle.rules.specs.Chains.Before.{less, later, shorter}
-use Rattle.rules.proofs.FourBounds.Order.{T-true, true-T}
 use Rattle.stack.specs.Places.{has, Below}
 
 -- every place of the list is below n

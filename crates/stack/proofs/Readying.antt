@@ -14,8 +14,7 @@ use Rattle.rules.specs.Records.{tasks, taskCount, taskAt}
 use Rattle.rules.specs.Refusals.{accepted, tableVerdict}
 use Rattle.rules.specs.Preempt.{cell}
 use Rattle.rules.specs.Chains.{priorityAt}
-use Rattle.rules.proofs.Tests.{both-first, both-second}
-use Rattle.rules.proofs.FourBounds.Order.{T-true}
+use Rattle.rules.proofs.Tests.{both-first, both-second, T-true}
 use Rattle.rules.proofs.Table.Ranges.{TaskRanges, task-ranges, le2-small}
 use Rattle.rules.proofs.Table.Shape.{Shape, ofKind-bytes}
 use Rattle.preempt.specs.declared.tasks.Tasks.{Tasks}

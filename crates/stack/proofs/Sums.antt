@@ -13,8 +13,7 @@ use lib.Dec.{T, eqb}
 use Rattle.rules.specs.Preempt.{cell}
 use Rattle.rules.specs.Chains.{weight, Path, All, Largest}
 use Rattle.rules.proofs.Numbers.{either, never}
-use Rattle.rules.proofs.Tests.{both-first, both-second}
-use Rattle.rules.proofs.FourBounds.Order.{T-true, true-T}
+use Rattle.rules.proofs.Tests.{both-first, both-second, T-true, true-T}
 use Rattle.stack.specs.Places.{has, Without, Shared, Inside}
 use Rattle.stack.specs.Setting.{Ready}
 use Rattle.stack.specs.Paths.{sizeIn, LargestAt, PathBound}

@@ -2,18 +2,18 @@
 use Prim.Native.Nat.{ℕ, _+_, _≤_, _<_}
 use mathlib.Core.List.{List, []}
 use mathlib.Core.Bool.{Bool, true, not}
-use mathlib.Core.Path.{_≡_, sym, ap, _∙_}
+use mathlib.Core.Path.{_≡_, ap, _∙_}
 use native.Mathlib.Omega.{arith}
 use borrow.Author.Tests.{ltb-true, ltb-false, eq-eqb, ne-eqb, le-leb, lt-leb}
 use lib.ListN.{length, getD}
 use lib.Dec.{leb, ltb, eqb}
 use Rattle.rules.specs.declared.Form.the-variants.{Table}
 use Rattle.rules.specs.Numbers.{Bytes, lowest}
-use Rattle.rules.specs.Blocks.{records, recordAt, recordCount}
+use Rattle.rules.specs.Blocks.{records, recordAt}
 use Rattle.rules.specs.Records.{numberOf, placeOf, listed, transactions, tasks, taskCount}
 use Rattle.rules.specs.Refusals.{accepted, recordsVerdict}
-use Rattle.rules.proofs.Numbers.{either, lowest-le, lowest-ext, lowest-none, lowest-here, getD-upTo, length-upTo}
-use Rattle.rules.proofs.Table.Kinds.{length-split, transaction-at, task-at}
+use Rattle.rules.proofs.Numbers.{either, lowest-le, lowest-ext, lowest-none, lowest-here}
+use Rattle.rules.proofs.Table.Standing.{transaction-record, task-record}
 use Rattle.rules.proofs.Table.Order.{Rises}
 use Rattle.rules.proofs.Table.Shape.{Shape, shape-of}
 use Rattle.table.specs.Numbers.{Rising, placeAmong, NumbersRead, Directory}
@@ -79,21 +79,13 @@ directory-of l image first count numbers read counted few same rises =
       rising = λ i j h k. omega (arith, number i (omega arith), number j k, rises i j h (omega arith));
     }
 
--- a record of the image, by its number
-record-is : (image : List ℕ) (k : ℕ) → k < recordCount image → recordAt image k ≡ getD (records image) k []
-record-is image k h = sym (getD-upTo (recordAt image) (recordCount image) k [] h)
-
 module _ (image : List ℕ) (bytes : Bytes image) (right : accepted (recordsVerdict Table (records image)) ≡ true) where
   pub shape : Shape (records image)
   shape = shape-of image bytes right
 
-  -- there is a record for each listed transaction and task
-  records-enough : length (transactions (records image)) + taskCount (records image) ≤ recordCount image
-  records-enough = omega (arith, length-split (records image) (shape .split), length-upTo (recordAt image) (recordCount image))
-
   -- the first records are the transactions
   pub transaction-is : (k : ℕ) → k < length (transactions (records image)) → recordAt image k ≡ getD (transactions (records image)) k []
-  transaction-is k h = record-is image k (omega (arith, records-enough)) ∙ transaction-at (records image) (shape .split) k h
+  transaction-is = transaction-record image (shape .split)
 
   pub transactions-directory : (numbers : List ℕ) (count : ℕ) → NumbersRead image 0 count numbers → count ≡ length (transactions (records image))
       → Directory (transactions (records image)) numbers count
@@ -108,5 +100,5 @@ module _ (image : List ℕ) (bytes : Bytes image) (right : accepted (recordsVerd
       → Directory (tasks (records image)) ids count
   tasks-directory ids first count read start counted =
       directory-of (tasks (records image)) image first count ids read counted (omega (arith, shape .few-tasks))
-      (λ k h. record-is image (first + k) (omega (arith, records-enough)) ∙ rw start (task-at (records image) (shape .split) k (omega arith)))
+      (λ k h. rw start (task-record image (shape .split) k (omega arith)))
       (shape .tasks-rise)

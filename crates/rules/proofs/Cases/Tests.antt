@@ -4,13 +4,13 @@ use mathlib.Core.List.{List, [], _∷_}
 use mathlib.Core.Bool.{Bool, true, false, _&&_, not}
 use mathlib.Core.Path.{_≡_, refl}
 use lib.Dec.{T, eqb, eqb→eq}
+use Rattle.rules.proofs.Tests.{T-true, both}
 use Rattle.rules.specs.declared.Form.the-variants.{Table}
 use Rattle.rules.specs.Preempt.{decided, mapOf}
 use Rattle.rules.specs.Chains.{Figures, chainBound, chainIds}
 use Rattle.rules.specs.Patches.{same, outcome, touchedCount, patchedMap}
 use Rattle.rules.specs.Refusals.{recordsVerdict, referenceRefusal}
-use Rattle.rules.proofs.FourBounds.Order.{T-true, both}
-use Rattle.rules.proofs.FourBounds.Accepted.{accepted-both}
+use Rattle.rules.proofs.Refusals.{accepted-both}
 use Rattle.rules.proofs.Enumerate.{figures, figures-right}
 use Rattle.rules.proofs.Enumerate.Apart.{records-apart}
 use Rattle.rules.proofs.Cases.Entries.{Shown, Shows, Case, valid, applies, Holds, AllHold}

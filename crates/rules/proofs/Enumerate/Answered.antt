@@ -11,8 +11,8 @@ use Rattle.rules.specs.Blocks.{records}
 use Rattle.rules.specs.Chains.{Figures, FiguresOf, chainIds}
 use Rattle.rules.specs.Refusals.{accepted, tableVerdict, shortRefusal}
 use Rattle.rules.specs.Calls.{over, boundVerdict, passesAny, boundRefusal, boundsFound, BoundCall}
+use Rattle.rules.proofs.Refusals.{accepted-both}
 use Rattle.rules.proofs.Numbers.{either, never}
-use Rattle.rules.proofs.FourBounds.Accepted.{accepted-both}
 use Rattle.rules.proofs.Enumerate.{figures, figures-right}
 use Rattle.rules.proofs.Enumerate.Apart.{accepted-apart}
 

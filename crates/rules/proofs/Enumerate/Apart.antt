@@ -13,8 +13,9 @@ use Rattle.rules.specs.Blocks.{records}
 use Rattle.rules.specs.Records.{kindOf, numberOf, wayOf, zeroBytes, formWrong, imageKey, ofKind, tasks, taskCount}
 use Rattle.rules.specs.Chains.{idAt}
 use Rattle.rules.specs.Refusals.{accepted, orElse, formRefusal, orderWrong, orderRefusal, rangeRefusal, countRefusal, frameVerdict, recordsVerdict, referenceRefusal, tableVerdict}
+use Rattle.rules.proofs.Refusals.{accepted-both, no-fault-at}
 use Rattle.rules.proofs.Numbers.{either, never}
-use Rattle.rules.proofs.FourBounds.Accepted.{accepted-both, accepted-all, ofKind-stands}
+use Rattle.rules.proofs.FourBounds.Accepted.{ofKind-stands}
 use Rattle.rules.proofs.Enumerate.{IdsApart}
 
 -- the keys of all records are above x
@@ -116,14 +117,14 @@ records-apart rs h i j li lj same =
     order = accepted-both (orderRefusal Table rs) (orElse (rangeRefusal Table rs) (countRefusal Table rs)) (after-form .1) .0
 
     rising : Rising (tasks rs)
-    rising = rising-ofKind 2 rs (order-rising rs (accepted-all 4 (orderWrong rs) (length rs) order))
+    rising = rising-ofKind 2 rs (order-rising rs (no-fault-at 5 (orderWrong rs) (length rs) (omega arith) order))
 
     key : (i : ℕ) → i < taskCount rs → imageKey (getD (tasks rs) i []) ≡ (131072 + idAt rs i) * 65536
     key i l =
         let (k, below, stands, kind) = ofKind-stands 2 rs i l in
         rw stands
         (task-key (getD rs k []) kind
-        (form-way (getD rs k []) (accepted-all 3 (λ k. formWrong Table (getD rs k [])) (length rs) (after-form .0) k below)))
+        (form-way (getD rs k []) (no-fault-at 4 (λ k. formWrong Table (getD rs k [])) (length rs) (omega arith) (after-form .0) k below)))
 
 -- in an accepted table no two tasks share an id
 pub accepted-apart : (image : List ℕ) → accepted (tableVerdict image) ≡ true → IdsApart (records image)

@@ -5,8 +5,8 @@ use mathlib.Core.Bool.{Bool, true, _&&_}
 use mathlib.Core.Path.{_≡_, refl, sym}
 use native.Mathlib.Omega.{arith}
 use lib.Dec.{T}
+use Rattle.rules.proofs.Tests.{T-true, true-T, both, both-pass}
 use Rattle.rules.specs.Chains.{Under, Chain, All, Heaviest}
-use Rattle.rules.proofs.FourBounds.Order.{T-true, true-T, both, both-pass}
 use Rattle.rules.proofs.Enumerate.Paths.{every, all-every}
 use Rattle.rules.proofs.Enumerate.Winner.{wins, wins-itself, wins-through, wins-longer, winnerTo, winnerTo-empty, winnerTo-each, winnerTo-holds, wins-weight, wins-before}
 

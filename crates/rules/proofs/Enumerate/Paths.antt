@@ -6,10 +6,10 @@ use mathlib.Core.Path.{_≡_, refl, sym, _∙_}
 use native.Mathlib.Omega.{arith}
 use borrow.Author.Tests.{ltb-true, ltb-false}
 use lib.Dec.{T, ltb}
+use Rattle.rules.proofs.Tests.{T-true, true-T, both, both-pass}
 use Rattle.rules.specs.Numbers.{largestTo}
 use Rattle.rules.specs.Chains.{weight, Path, All, Largest}
 use Rattle.rules.proofs.Numbers.{either, largestTo-most}
-use Rattle.rules.proofs.FourBounds.Order.{T-true, true-T, both, both-pass}
 
 -- the value at i where the test passes there, and 0 where it does not
 abbrev pub where-passed : (ℕ → Bool) → (ℕ → ℕ) → ℕ → ℕ

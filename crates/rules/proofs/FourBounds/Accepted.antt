@@ -1,32 +1,18 @@
 -- What an accepted table says of its tasks: the transaction of each is listed.
 use Prim.Native.Nat.{ℕ, zero, suc, _<_}
 use mathlib.Core.List.{List, [], _∷_}
-use mathlib.Core.Bool.{Bool, true, false}
+use mathlib.Core.Bool.{true, false}
 use mathlib.Core.Path.{_≡_, refl}
 use native.Mathlib.Omega.{arith}
-use borrow.Author.Tests.{ltb-false, eqb-true, eq-eqb}
+use borrow.Author.Tests.{eqb-true, eq-eqb}
 use lib.ListN.{length, getD}
 use lib.Dec.{eqb}
 use Rattle.rules.specs.declared.Form.the-variants.{Table}
-use Rattle.rules.specs.declared.Verdict.{Verdict}
-use Rattle.rules.specs.Numbers.{lowest, some}
 use Rattle.rules.specs.Blocks.{records}
 use Rattle.rules.specs.Records.{kindOf, secondOf, ofKind, taskCount, taskAt, transactions, listed, referenceWrong}
-use Rattle.rules.specs.Refusals.{accepted, orElse, refuseAt, frameVerdict, recordsVerdict, referenceRefusal, tableVerdict}
-use Rattle.rules.proofs.Numbers.{either, never, lowest-below}
-
--- where one check after another accepts, each of the two does
-pub accepted-both : (v w : Verdict) → accepted (orElse v w) ≡ true → (accepted v ≡ true) × (accepted w ≡ true)
-accepted-both v w h =
-    either (accepted v) (λ t. (t, rw t at h)) (λ t. never (accepted v) (rw t at h) t)
-
--- a check over all places that accepts finds its fault at none of them
-pub accepted-all : (n : ℕ) (fault : ℕ → Bool) (count : ℕ) → accepted (refuseAt (suc n) fault count) ≡ true
-    → (k : ℕ) → k < count → fault k ≡ false
-accepted-all n fault count h k l =
-    either (some fault count)
-    (λ t. absurd (omega (arith, eqb-true (suc n) 0 (rw t at h))))
-    (λ t. lowest-below fault count k (omega (arith, ltb-false (lowest fault count) count t)))
+use Rattle.rules.specs.Refusals.{accepted, orElse, frameVerdict, recordsVerdict, referenceRefusal, tableVerdict}
+use Rattle.rules.proofs.Refusals.{accepted-both, no-fault-at}
+use Rattle.rules.proofs.Numbers.{either, never}
 
 -- a record stands in a list, and is of that kind
 abbrev pub Stands : ℕ → List (List ℕ) → List ℕ → Type 0
@@ -64,4 +50,4 @@ accepted-listed image h i l =
     let rest = accepted-both (frameVerdict Table image) (orElse (recordsVerdict Table rs) (referenceRefusal rs)) h .1 in
     let references = accepted-both (recordsVerdict Table rs) (referenceRefusal rs) rest .1 in
     let (k, below, same, kind) = ofKind-stands 2 rs i l in
-    rw same (reference-listed rs (getD rs k []) kind (accepted-all 7 (λ k. referenceWrong rs (getD rs k [])) (length rs) references k below))
+    rw same (reference-listed rs (getD rs k []) kind (no-fault-at 8 (λ k. referenceWrong rs (getD rs k [])) (length rs) (omega arith) references k below))

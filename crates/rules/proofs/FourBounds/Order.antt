@@ -1,35 +1,18 @@
 -- How the bounds of one table and one map are ordered: chain <= path <= levels, and chain <= transactions.
-use Prim.Native.Nat.{ℕ, zero, suc, _+_, _≤_, _<_}
+use Prim.Native.Nat.{ℕ, suc, _+_, _≤_, _<_}
 use mathlib.Core.List.{List, [], _∷_}
-use mathlib.Core.Bool.{Bool, true, false, cond, _&&_}
+use mathlib.Core.Bool.{Bool, true, cond, _&&_}
 use mathlib.Core.Path.{_≡_, refl, sym}
 use native.Mathlib.Omega.{arith}
-use borrow.Author.Tests.{ltb-true, ltb-false, eqb-true, eq-eqb}
+use borrow.Author.Tests.{ltb-true, eqb-true, eq-eqb}
 use lib.ListN.{length, getD}
 use lib.Dec.{T, ltb, eqb}
 use Rattle.rules.specs.Numbers.{sumTo, largestTo}
 use Rattle.rules.specs.Records.{taskCount, taskAt, transactions, numberOf, placeOf, listed}
 use Rattle.rules.specs.Preempt.{cell}
 use Rattle.rules.specs.Chains.{weight, Under, Chain, Path, All, Largest, related, sizeAt, priorityAt, inTransaction, TransactionBound, levelAt, levelBound}
-use Rattle.rules.proofs.Numbers.{either, never, largestTo-most, lowest-passes}
-
--- a test that holds has the value true, and the other way round
-pub T-true : (b : Bool) → T b → b ≡ true
-T-true true t = refl
-T-true false t = absurd t
-
-pub true-T : (b : Bool) → b ≡ true → T b
-true-T true e = tt
-true-T false e = never false e refl
-
--- a test of two halves passes where both do
-pub both : (a b : Bool) → T (a && b) → T a × T b
-both true b t = (tt, t)
-both false b t = absurd t
-
-pub both-pass : (a b : Bool) → T a → T b → T (a && b)
-both-pass true b s t = t
-both-pass false b s t = s
+use Rattle.rules.proofs.Tests.{T-true, true-T, both}
+use Rattle.rules.proofs.Numbers.{either, largestTo-most, lowest-passes, sumTo-longer, sumTo-least, sumTo-more}
 
 -- every chain is a path
 pub chain-path : (n : ℕ) (R : ℕ → ℕ → Bool) (c : List ℕ) → Chain n R c → Path n R c
@@ -46,17 +29,6 @@ pub largest-chain≤path : (n : ℕ) (R : ℕ → ℕ → Bool) (S : ℕ → ℕ
 largest-chain≤path n R S q r chains paths =
     let (c, chain, same) = chains .reached in
     omega (arith, chain≤path n R S r c paths chain, same)
-
--- a sum over more numbers is no smaller
-pub sumTo-longer : (f : ℕ → ℕ) (p m : ℕ) → p ≤ m → sumTo f p ≤ sumTo f m
-unfolding sumTo
-sumTo-longer f p zero h = let e : p ≡ 0 = omega arith in rw e (omega arith)
-sumTo-longer f p (suc m) h =
-    either (ltb m p)
-    (λ t.
-    let e : p ≡ suc m = omega (arith, ltb-true m p t) in
-    rw e (omega arith))
-    (λ t. omega (arith, sumTo-longer f p m (ltb-false m p t)))
 
 -- priorities rise along a path, so that it has at most one task at each: together with what the levels below its first
 -- task hold, it weighs at most what all levels hold
@@ -123,23 +95,6 @@ own-all : (test : ℕ → Bool) (c : List ℕ) → All test (own test c)
 unfolding own
 own-all test [] = tt
 own-all test (i ∷ c) = either (test i) (λ t. rw t (true-T (test i) t, own-all test c)) (λ t. rw t (own-all test c))
-
--- a sum whose terms are no smaller
-pub sumTo-least : (f g : ℕ → ℕ) (n : ℕ) → ((t : ℕ) → t < n → g t ≤ f t) → sumTo g n ≤ sumTo f n
-unfolding sumTo
-sumTo-least f g zero all = omega arith
-sumTo-least f g (suc n) all = omega (arith, all n (omega arith), sumTo-least f g n (λ t h. all t (omega arith)))
-
--- and one of them larger by x
-pub sumTo-more : (f g : ℕ → ℕ) (n k x : ℕ) → ((t : ℕ) → g t ≤ f t) → k < n → g k + x ≤ f k → sumTo g n + x ≤ sumTo f n
-unfolding sumTo
-sumTo-more f g zero k x all h more = absurd (omega arith)
-sumTo-more f g (suc n) k x all h more =
-    either (ltb k n)
-    (λ t. omega (arith, all n, sumTo-more f g n k x all (ltb-true k n t) more))
-    (λ t.
-    let e : n ≡ k = omega (arith, ltb-false k n t) in
-    rw e (omega (arith, sumTo-least f g k (λ i l. all i))))
 
 -- a task adds its size to the tests that it passes, and takes nothing from the others
 own-adds : (S : ℕ → ℕ) (test : ℕ → Bool) (i : ℕ) (c : List ℕ) → weight S (own test c) ≤ weight S (own test (i ∷ c))
