@@ -2,5 +2,6 @@
 mod block;
 pub mod bytes;
 pub mod frame;
+pub mod reader;
 pub mod records;
 pub mod write;

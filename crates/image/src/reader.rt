@@ -1,0 +1,58 @@
+// A reader of an image's records: it holds the image and the number of the record that comes next.
+ghost use mathlib.Core.Path.{_≡_};
+ghost use Prim.Native.Nat.{_+_, _<_, _^_};
+ghost use lib.Dec.{leb};
+ghost use Rattle.rules.specs.Blocks.{recordAt, recordCount};
+use crate::records::record_at;
+use crate::records::record_count;
+
+pub struct Reader<'a> {
+    pub image: &'a [u8],
+    pub next: usize,
+}
+
+// Whether an image holds no record of this number.
+pub fn is_past(image: &[u8], k: usize) -> bool
+    ensures { λ r. ⌜ r ≡ leb (recordCount (now (image .entry))) k ⌝ }
+{
+    record_count(image) <= k
+}
+
+// A reader that stands at an image's first record.
+pub fn start<'a>(image: &'a [u8]) -> Reader<'a>
+    ensures { λ r. ⌜ (r .image ≡ image .entry) × (r .next ≡ 0) ⌝ }
+{
+    Reader { image, next: 0 }
+}
+
+// Whether no record is left.
+pub fn is_done<'a>(reader: Reader<'a>) -> bool
+    ensures { λ r. ⌜ r ≡ leb (recordCount (now (reader .entry .image))) (reader .entry .next) ⌝ }
+{
+    is_past(reader.image, reader.next)
+}
+
+// The record that comes next, as a part of the image; past the image's end it is shorter or empty.
+pub fn next_record<'a>(reader: Reader<'a>) -> &'a [u8]
+    ensures { λ r. ⌜ now r ≡ recordAt (now (reader .entry .image)) (reader .entry .next) ⌝ }
+{
+    record_at(reader.image, reader.next)
+}
+
+// The reader one record further.
+pub fn after<'a>(reader: Reader<'a>) -> Reader<'a>
+    requires { ⌜ reader .next + 1 < 2 ^ 64 ⌝ }
+    ensures { λ r. ⌜ (r .image ≡ reader .entry .image) × (r .next ≡ reader .entry .next + 1) ⌝ }
+{
+    Reader {
+        image: reader.image,
+        next: reader.next + 1,
+    }
+}
+
+// The first record of an image, as a part of it; where the image ends before 40 bytes it is shorter or empty.
+pub fn first_record(image: &[u8]) -> &[u8]
+    ensures { λ r. ⌜ now r ≡ recordAt (now (image .entry)) 0 ⌝ }
+{
+    next_record(start(image))
+}
