@@ -11,11 +11,11 @@ pub const TABLE_BLOCKS: usize = 23;
 
 pub const PATCH_BLOCKS: usize = 45;
 
-pub const MOST_TRANSACTIONS: usize = 16;
+pub const MOST_TRANSACTIONS: u32 = 16;
 
-pub const MOST_TASKS: usize = 64;
+pub const MOST_TASKS: u32 = 64;
 
-pub const MOST_PAIRS: usize = 256;
+pub const MOST_PAIRS: u32 = 256;
 
 // The two forms of an image.
 pub enum Form {

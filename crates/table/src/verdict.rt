@@ -37,13 +37,13 @@ fn count_verdict(form: Form, image: &[u8]) -> Verdict
     ensures { λ r. ⌜ r ≡ countRefusal form (records (now (image .entry))) ⌝ }
 {
     let counts = tally(image);
-    if has_too_many(counts, 1, 16) {
+    if has_too_many(counts, 1, rules::MOST_TRANSACTIONS) {
         return refusal(form, 7, 1);
     }
-    if has_too_many(counts, 2, 64) {
+    if has_too_many(counts, 2, rules::MOST_TASKS) {
         return refusal(form, 7, 2);
     }
-    if has_too_many(counts, 3, 256) {
+    if has_too_many(counts, 3, rules::MOST_PAIRS) {
         return refusal(form, 7, 3);
     }
     Verdict {
