@@ -55,7 +55,7 @@ returns-2 c =
     let inside : k < recordCount image = omega (arith, c .before .before .before .before .before .before .before .before .record-count .ensures) in
     let here : c .before .image-key2 .result ≡ imageKey (getD (records image) k []) = c .before .image-key2 .ensures ∙ ap imageKey (c .before .before .record-at2 .ensures ∙ sym (getD-upTo (recordAt image) (recordCount image) k [] inside)) in
     let below = c .before .before .before .before .loop .inv .2 in
-    let wrong : orderWrong (records image) k ≡ true = rw (lt-ltb 0 k (c .before .before .before .before .loop .inv .0), ← here, ← below, le-leb _ _ (c .if2 .taken)) in
+    let wrong : orderWrong (records image) k ≡ true = rw (lt-ltb 0 k (c .before .before .before .before .loop .inv .0), ← here, ← below, le-leb (c .before .image-key2 .result) (c .before .before .before .before .loop .before) (omega arith)) in
     sym (lowest-here (orderWrong (records image)) k (recordCount image) (c .before .before .before .before .loop .inv .3) wrong inside)
 
 add-k : tie.Need-add-k Inv-loop μ-loop
@@ -71,7 +71,7 @@ loop-again c =
     let inside : k < recordCount image = omega (arith, c .before .before .before .before .before .before .before .before .record-count .ensures) in
     let here : c .before .image-key2 .result ≡ imageKey (getD (records image) k []) = c .before .image-key2 .ensures ∙ ap imageKey (c .before .before .record-at2 .ensures ∙ sym (getD-upTo (recordAt image) (recordCount image) k [] inside)) in
     let below = c .before .before .before .before .loop .inv .2 in
-    let right : orderWrong (records image) k ≡ false = rw (lt-ltb 0 k (c .before .before .before .before .loop .inv .0), ← here, ← below, lt-leb _ _ (c .if2 .left)) in
+    let right : orderWrong (records image) k ≡ false = rw (lt-ltb 0 k (c .before .before .before .before .loop .inv .0), ← here, ← below, lt-leb (c .before .image-key2 .result) (c .before .before .before .before .loop .before) (omega arith)) in
     let same : k + 1 - 1 ≡ k = omega arith in
     (omega arith, omega arith, rw same here, lowest-more (orderWrong (records image)) k (c .before .before .before .before .loop .inv .3) right)
 
