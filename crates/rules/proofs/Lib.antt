@@ -5,6 +5,7 @@ pub mod Blocks
 pub mod Refusals
 pub mod Image
 pub mod Table
+pub mod Patch
 pub mod FourBounds
 pub mod Enumerate
 pub mod Cases

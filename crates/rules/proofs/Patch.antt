@@ -1,0 +1,2 @@
+-- Laws of patches: which records stand in an outcome.
+pub mod Members
