@@ -2,7 +2,9 @@
 ghost use mathlib.Core.Path.{_≡_};
 ghost use Prim.Native.Nat.{_+_, _<_, _^_};
 ghost use lib.Dec.{leb};
-ghost use Rattle.rules.specs.Blocks.{recordAt, recordCount};
+ghost use Rattle.rules.specs.Blocks.{recordAt, recordCount, records};
+ghost use Rattle.image.specs.Met.{past};
+use crate::bytes::is_same;
 use crate::records::record_at;
 use crate::records::record_count;
 
@@ -16,6 +18,20 @@ pub fn is_past(image: &[u8], k: usize) -> bool
     ensures { λ r. ⌜ r ≡ leb (recordCount (now (image .entry))) k ⌝ }
 {
     record_count(image) <= k
+}
+
+// The number after k where the image's record k is these bytes, and else k.
+pub fn number_past(image: &[u8], k: usize, fields: &[u8]) -> usize
+    ensures { λ r. ⌜ r ≡ past (records (now (image .entry))) (now (fields .entry)) k ⌝ }
+{
+    if is_past(image, k) {
+        return k;
+    }
+    if is_same(record_at(image, k), fields) {
+        k + 1
+    } else {
+        k
+    }
 }
 
 // A reader that stands at an image's first record.
