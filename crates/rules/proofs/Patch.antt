@@ -1,2 +1,3 @@
--- Laws of patches: which records stand in an outcome.
+-- Laws of patches: what makes a list of records a table, and which records stand in an outcome.
 pub mod Members
+pub mod Valid
