@@ -1,15 +1,15 @@
 -- What makes a list of records a table: each is 32 bytes long, and refusals 4 to 8 find no fault; then its image is accepted.
 use Prim.Native.Nat.{ℕ, _≤_}
 use mathlib.Core.List.{List, []}
-use mathlib.Core.Bool.{true}
-use mathlib.Core.Path.{_≡_}
+use mathlib.Core.Bool.{true, false, not}
+use mathlib.Core.Path.{_≡_, ap}
 use native.Mathlib.Omega.{arith}
 use lib.ListN.{length, getD}
 use Rattle.rules.specs.declared.Form.the-variants.{Table}
 use Rattle.rules.specs.declared.Verdict.{Verdict}
 use Rattle.rules.specs.Blocks.{records, imageOf}
 use Rattle.rules.specs.Records.{numberOf, key, formWrong, rangeWrong, tooMany, referenceWrong, transactions, tasks, taskCount}
-use Rattle.rules.specs.Refusals.{accepted, fine, orElse, refuseIf, formRefusal, orderWrong, orderRefusal, rangeRefusal, countRefusal, referenceRefusal, frameVerdict, recordsVerdict, tableVerdict}
+use Rattle.rules.specs.Refusals.{accepted, fine, orElse, refuseIf, formRefusal, orderWrong, orderRefusal, rangeRefusal, countRefusal, referenceRefusal, frameVerdict, recordsVerdict, tableVerdict, broken}
 use Rattle.rules.proofs.Refusals.{accepted-first, accepted-second, fine-both, fine-at, accepted-if, accepted-at}
 use Rattle.rules.proofs.Image.Parts.{Records}
 use Rattle.rules.proofs.Image.Frame.{frame-of, records-sized}
@@ -87,7 +87,11 @@ module _ (rs : List (List ℕ)) (v : Valid rs) where
         few-pairs rs (v .faultless),
       )
 
-  -- so they fit in 23 blocks, and its image is accepted
+  -- refusal 8 is fine
+  references-fine : referenceRefusal rs ≡ fine
+  references-fine = accepted-at 8 (λ k. referenceWrong rs (getD rs k [])) (length rs) (omega arith) (v .references)
+
+  -- the records fit in 23 blocks, so its image is accepted
   pub table-of-valid : tableVerdict (imageOf Table rs) ≡ fine
   unfolding tableVerdict
   table-of-valid =
@@ -96,7 +100,15 @@ module _ (rs : List (List ℕ)) (v : Valid rs) where
       (frame-imageOf Table rs (v .sized) (omega (arith, valid-few)))
       (fine-both (recordsVerdict Table rs) (referenceRefusal rs)
       (faultless-fine rs (v .faultless))
-      (accepted-at 8 (λ k. referenceWrong rs (getD rs k [])) (length rs) (omega arith) (v .references))))
+      references-fine))
+
+  -- and as an outcome it is not broken
+  pub valid-not-broken : broken rs ≡ false
+  valid-not-broken =
+      ap (λ (w : Verdict). not (accepted w))
+      (fine-both (orderRefusal Table rs) (orElse (countRefusal Table rs) (referenceRefusal rs))
+      (fine-at 5 (orderWrong rs) (length rs) (v .faultless .orders))
+      (fine-both (countRefusal Table rs) (referenceRefusal rs) (count-fine rs (v .faultless .counts)) references-fine))
 
 -- records of 32 bytes whose image is accepted are a table
 pub valid-imageOf : (rs : List (List ℕ)) → Records rs → accepted (tableVerdict (imageOf Table rs)) ≡ true → Valid rs
