@@ -175,6 +175,10 @@ unfolding lowest
 lowest-ext test other zero h = refl
 lowest-ext test other (suc n) h = rw (lowest-ext test other n (λ k l. h k (omega arith)), h n (omega arith))
 
+-- and pass somewhere together
+pub some-ext : (test other : ℕ → Bool) (n : ℕ) → ((k : ℕ) → k < n → test k ≡ other k) → some test n ≡ some other n
+some-ext test other n h = rw (lowest-ext test other n h)
+
 -- one more value stored at the end of what is known
 pub set-next : (f : ℕ → ℕ) (l : List ℕ) (k v : ℕ) → k < length l → ((i : ℕ) → i < k → getD l i 0 ≡ f i) → v ≡ f k
     → (i : ℕ) → i < k + 1 → getD (set l k v) i 0 ≡ f i

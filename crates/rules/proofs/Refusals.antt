@@ -53,6 +53,14 @@ pub fine-at : (n : ℕ) (fault : ℕ → Bool) (count : ℕ) → ((k : ℕ) → 
 fine-at n fault count h =
     fine-if n (lowest fault count) (some fault count) (some-false fault count (lowest-none fault count h))
 
+-- so a test, or a test at each place, that is accepted is fine
+pub accepted-if : (n p : ℕ) (fault : Bool) → 0 < n → accepted (refuseIf n p fault) ≡ true → refuseIf n p fault ≡ fine
+accepted-if n p fault positive h = fine-if n p fault (no-fault n p fault positive h)
+
+pub accepted-at : (n : ℕ) (fault : ℕ → Bool) (count : ℕ) → 0 < n → accepted (refuseAt n fault count) ≡ true
+    → refuseAt n fault count ≡ fine
+accepted-at n fault count positive h = accepted-if n (lowest fault count) (some fault count) positive h
+
 -- a refusal hides what comes after it
 pub orElse-refusal : (n p : ℕ) (w : Verdict) → 0 < n → orElse (refusal n p) w ≡ refusal n p
 orElse-refusal n p w h = rw (ne-eqb n 0 (λ e. omega arith))

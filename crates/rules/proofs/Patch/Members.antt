@@ -1,8 +1,8 @@
 -- Which records stand in a list: those of a part taken out, of a record put in, of one kind, and of the outcome of a patch.
 use Prim.Native.Nat.{ℕ, zero, suc, _<_}
 use mathlib.Core.List.{List, [], _∷_, foldr}
-use mathlib.Core.Bool.{Bool, true, false, cond, _&&_, _||_, not}
-use mathlib.Core.Path.{_≡_, refl, ap, sym, _∙_}
+use mathlib.Core.Bool.{true, false, _&&_, _||_, not}
+use mathlib.Core.Path.{_≡_, refl, sym, _∙_}
 use native.Mathlib.Omega.{arith}
 use borrow.Author.Tests.{eqb-true, eq-eqb}
 use lib.ListN.{length, getD, set}
@@ -147,3 +147,27 @@ putIn-from (s ∷ ps) r h =
     (λ u. (s, rw (same-refl s), eqb-true (wayOf s) 1 t, sym (same-equal (set s 31 0) r u)))
     (λ u. later (rw (t, u) at h)))
     (λ t. later (rw t at h))
+
+-- what holds of each record of a list holds of a record that stands in it
+pub has-each {ℓ} : (P : List ℕ → Type ℓ) (rs : List (List ℕ)) → ((k : ℕ) → k < length rs → P (getD rs k []))
+    → (r : List ℕ) → has rs r ≡ true → P r
+has-each P rs each r h = let (k, below, e) = has-place rs r h in rw (← e) (each k below)
+
+-- a record of the outcome was put in, or stands in the base
+pub outcome-from {ℓ} : (P : List ℕ → Type ℓ) (base patch : List (List ℕ)) (r : List ℕ)
+    → (has base r ≡ true → P r)
+    → ((p : List ℕ) → has patch p ≡ true → wayOf p ≡ 1 → P (set p 31 0))
+    → has (outcome base patch) r ≡ true → P r
+outcome-from P base patch r stands puts h =
+    either (has (putIn patch) r)
+    (λ t. let (p, there, way, e) = putIn-from patch r t in rw e (puts p there way))
+    (λ t. stands (both-first (has base r) (not (has (takenOut patch) r)) (rw t at (sym (has-outcome base patch r) ∙ h))))
+
+-- what holds of each record of the base, and of each that is put in, holds of each record of the outcome
+pub outcome-each {ℓ} : (P : List ℕ → Type ℓ) (base patch : List (List ℕ))
+    → ((k : ℕ) → k < length base → P (getD base k []))
+    → ((p : List ℕ) → has patch p ≡ true → wayOf p ≡ 1 → P (set p 31 0))
+    → (k : ℕ) → k < length (outcome base patch) → P (getD (outcome base patch) k [])
+outcome-each P base patch stand puts k h =
+    outcome-from P base patch (getD (outcome base patch) k []) (has-each P base stand (getD (outcome base patch) k [])) puts
+    (has-at (outcome base patch) k h)

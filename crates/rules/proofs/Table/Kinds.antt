@@ -77,6 +77,20 @@ ofKind-all P k (r ∷ rs) h (suc i) =
     (λ t. rw t (ofKind-all P k rs (λ j. h (suc j)) i))
     (λ t. rw t (ofKind-all P k rs (λ j. h (suc j)) (suc i)))
 
+-- what holds of each record of a list holds of each record of one kind
+pub ofKind-each {ℓ} : (P : List ℕ → Type ℓ) (k : ℕ) (rs : List (List ℕ)) → ((i : ℕ) → i < length rs → P (getD rs i []))
+    → (i : ℕ) → i < length (ofKind k rs) → P (getD (ofKind k rs) i [])
+unfolding ofKind
+ofKind-each P k [] h i l = absurd (omega arith)
+ofKind-each P k (r ∷ rs) h zero l =
+    either (eqb (kindOf r) k)
+    (λ t. rw t (h zero (omega arith)))
+    (λ t. rw t (ofKind-each P k rs (λ j m. h (suc j) (omega arith)) zero (rw t at l)))
+ofKind-each P k (r ∷ rs) h (suc i) l =
+    either (eqb (kindOf r) k)
+    (λ t. rw t (ofKind-each P k rs (λ j m. h (suc j) (omega arith)) i (omega (arith, rw t at l))))
+    (λ t. rw t (ofKind-each P k rs (λ j m. h (suc j) (omega arith)) (suc i) (rw t at l)))
+
 -- where no record is of a kind, the list of those of that kind is empty
 pub ofKind-none : (k : ℕ) (rs : List (List ℕ)) → ((i : ℕ) → i < length rs → kindOf (getD rs i []) ≡ k → ⊥)
     → ofKind k rs ≡ []
@@ -106,6 +120,27 @@ ofKind-same k r rs e = rw (eq-eqb (kindOf r) k e)
 ofKind-other : (k : ℕ) (r : List ℕ) (rs : List (List ℕ)) → (kindOf r ≡ k → ⊥) → ofKind k (r ∷ rs) ≡ ofKind k rs
 unfolding ofKind
 ofKind-other k r rs other = rw (ne-eqb (kindOf r) k other)
+
+-- where each kind is 1, 2 or 3, a list has as many records as there are of the three kinds
+pub length-kinds : (rs : List (List ℕ)) → Known rs → length rs ≡ length (transactions rs) + taskCount rs + length (pairs rs)
+unfolding ofKind
+length-kinds [] known = refl
+length-kinds (r ∷ rs) known =
+    let rest = length-kinds rs (λ i l. known (suc i) (omega arith)) in
+    let (least, most) = known zero (omega arith) in
+    either (eqb (kindOf r) 1)
+    (λ t.
+    let e = eqb-true (kindOf r) 1 t in
+    rw (ofKind-same 1 r rs e, ofKind-other 2 r rs (λ o. omega arith), ofKind-other 3 r rs (λ o. omega arith)) (omega arith))
+    (λ t.
+    let more = eqb-false (kindOf r) 1 t in
+    either (eqb (kindOf r) 2)
+    (λ u.
+    let e = eqb-true (kindOf r) 2 u in
+    rw (ofKind-other 1 r rs more, ofKind-same 2 r rs e, ofKind-other 3 r rs (λ o. omega arith)) (omega arith))
+    (λ u.
+    let pair = eqb-false (kindOf r) 2 u in
+    rw (ofKind-other 1 r rs more, ofKind-other 2 r rs pair, ofKind-same 3 r rs (omega arith)) (omega arith)))
 
 -- one more record in front of a list that is split
 module _ (r : List ℕ) (rs : List (List ℕ)) (rest : Split rs) where

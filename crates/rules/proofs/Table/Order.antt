@@ -1,6 +1,6 @@
 -- Table order: what a rising key says of kinds and numbers.
 use Prim.Native.Nat.{ℕ, zero, suc, _-_, _≤_, _<_}
-use mathlib.Core.List.{List, []}
+use mathlib.Core.List.{List, [], _∷_}
 use mathlib.Core.Bool.{false, cond}
 use mathlib.Core.Path.{_≡_}
 use native.Mathlib.Omega.{arith}
@@ -8,10 +8,11 @@ use borrow.Author.Tests.{ne-eqb, lt-ltb, ltb-true, ltb-false, leb-false}
 use lib.ListN.{length, getD}
 use lib.Dec.{eqb, ltb}
 use Rattle.rules.specs.Numbers.{Bytes}
-use Rattle.rules.specs.Records.{kindOf, numberOf, secondOf, key, imageKey}
+use Rattle.rules.specs.Records.{kindOf, numberOf, secondOf, key, imageKey, ofKind}
 use Rattle.rules.specs.Refusals.{orderWrong}
 use Rattle.rules.proofs.Numbers.{either}
 use Rattle.rules.proofs.Table.Ranges.{le2-small}
+use Rattle.rules.proofs.Table.Kinds.{kind-ofKind, ofKind-each}
 
 -- a number of the records rises strictly from each to every later one
 abbrev pub Rises : (List ℕ → ℕ) → List (List ℕ) → Type 0
@@ -47,3 +48,33 @@ kind-rises r s bytes h = omega (arith, last-part s bytes, le2-small s bytes 2)
 -- of two records of one kind other than pairs, a higher key is a higher number
 pub number-rises : (r s : List ℕ) (k : ℕ) → kindOf r ≡ k → kindOf s ≡ k → k < 3 → key r < key s → numberOf r < numberOf s
 number-rises r s k e e′ other h = omega (arith, simp (ne-eqb (kindOf r) 3 (λ o. omega arith), ne-eqb (kindOf s) 3 (λ o. omega arith)) at h)
+
+-- what rises in a list rises in the list behind its first record
+rises-rest : (f : List ℕ → ℕ) (r : List ℕ) (rs : List (List ℕ)) → Rises f (r ∷ rs) → Rises f rs
+rises-rest f r rs rises i j b l = rises (suc i) (suc j) (omega arith) (omega arith)
+
+-- a list that rises still rises behind a record that is below each of its records
+rises-front : (f : List ℕ → ℕ) (r : List ℕ) (rs : List (List ℕ)) → Rises f rs
+    → ((i : ℕ) → i < length rs → f r < f (getD rs i [])) → Rises f (r ∷ rs)
+rises-front f r rs rises above i zero b l = absurd (omega arith)
+rises-front f r rs rises above zero (suc j) b l = above j (omega arith)
+rises-front f r rs rises above (suc i) (suc j) b l = rises i j (omega arith) (omega arith)
+
+-- what rises in a list rises in its records of one kind
+pub ofKind-rises : (f : List ℕ → ℕ) (k : ℕ) (rs : List (List ℕ)) → Rises f rs → Rises f (ofKind k rs)
+unfolding ofKind
+ofKind-rises f k [] rises = rises
+ofKind-rises f k (r ∷ rs) rises =
+    let rest = ofKind-rises f k rs (rises-rest f r rs rises) in
+    either (eqb (kindOf r) k)
+    (λ t.
+    rw t
+    (rises-front f r (ofKind k rs) rest
+    (ofKind-each (λ s. f r < f s) k rs (λ i l. rises zero (suc i) (omega arith) (omega arith)))))
+    (λ t. rw t rest)
+
+-- so where the keys rise, the numbers of the records of one kind other than pairs rise
+pub numbers-rise : (k : ℕ) (rs : List (List ℕ)) → k < 3 → Rises key rs → Rises numberOf (ofKind k rs)
+numbers-rise k rs other rises i j b l =
+    number-rises (getD (ofKind k rs) i []) (getD (ofKind k rs) j []) k (kind-ofKind k rs i (omega arith)) (kind-ofKind k rs j l) other
+    (ofKind-rises key k rs rises i j b l)

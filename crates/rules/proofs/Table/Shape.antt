@@ -19,7 +19,7 @@ use Rattle.rules.proofs.Tests.{neither-first, neither-second}
 use Rattle.rules.proofs.Refusals.{accepted-first, accepted-second, no-fault, no-fault-at}
 use Rattle.rules.proofs.Table.Kinds.{Known, Grouped, Split, split-of, length-split, transaction-at, task-at, pair-at, transaction-kind, task-kind, pair-kind, count-ofKind, ofKind-all}
 use Rattle.rules.proofs.Table.Ranges.{between-least, between-most, transaction-right, task-right, pair-right}
-use Rattle.rules.proofs.Table.Order.{Rises, rises-of-next, order-right, kind-rises, number-rises}
+use Rattle.rules.proofs.Table.Order.{Rises, rises-of-next, order-right, kind-rises, numbers-rise}
 
 -- the records of a table: transactions, tasks and pairs, not too many, in order and in range, with byte 31 at 0
 pub record Shape (rs : List (List ℕ)) : Type 0 where
@@ -104,33 +104,45 @@ module _ (rs : List (List ℕ)) (h : accepted (countRefusal Table rs) ≡ true) 
   pub count-pairs : countOf 3 0 rs ≤ 256
   count-pairs = few 3 (accepted-second (refuse 2) (refuse 3) rest)
 
--- faultless records of bytes have this shape
-module _ (rs : List (List ℕ)) (bytes : (k : ℕ) → Bytes (getD rs k [])) (f : Faultless rs) where
+-- what it says of records that they are faultless, whether they are bytes or not
+module _ (rs : List (List ℕ)) (f : Faultless rs) where
   -- byte 31 is 0 throughout, also past the end
-  ways : (k : ℕ) → wayOf (getD rs k []) ≡ 0
-  ways k =
+  pub faultless-ways : (k : ℕ) → wayOf (getD rs k []) ≡ 0
+  faultless-ways k =
       either (ltb k (length rs))
       (λ t. way-zero (getD rs k []) (f .forms k (ltb-true k (length rs) t)))
       (λ t. rw (List·getD-eq-default rs [] (ltb-false k (length rs) t)))
 
   -- each kind is 1, 2 or 3
-  known : Known rs
-  known i l =
+  pub faultless-known : Known rs
+  faultless-known i l =
       let right = known-kind (getD rs i []) (f .forms i l) in
       (between-least 1 (kindOf (getD rs i [])) 3 right, between-most 1 (kindOf (getD rs i [])) 3 right)
 
   -- with byte 31 at 0, the image's order is table order
-  keys-rise : Rises key rs
-  keys-rise i j b l =
-      omega (arith, rises-of-next imageKey rs (λ k some m. order-right rs k (f .orders k m) some) i j b l, ways i, ways j)
+  pub faultless-rises : Rises key rs
+  faultless-rises i j b l =
+      omega (arith, rises-of-next imageKey rs (λ k some m. order-right rs k (f .orders k m) some) i j b l, faultless-ways i, faultless-ways j)
 
-  -- so the kinds do not fall
+  -- there are at most 16 transactions, 64 tasks and 256 pairs
+  pub few-transactions : length (transactions rs) ≤ 16
+  few-transactions = rw (← count-ofKind rs faultless-ways 1) (count-transactions rs (f .counts))
+
+  pub few-tasks : taskCount rs ≤ 64
+  few-tasks = rw (← count-ofKind rs faultless-ways 2) (count-tasks rs (f .counts))
+
+  pub few-pairs : length (pairs rs) ≤ 256
+  few-pairs = rw (← count-ofKind rs faultless-ways 3) (count-pairs rs (f .counts))
+
+-- faultless records of bytes have this shape
+module _ (rs : List (List ℕ)) (bytes : (k : ℕ) → Bytes (getD rs k [])) (f : Faultless rs) where
+  -- where the keys rise, the kinds do not fall
   grouped : Grouped rs
-  grouped i j b l = kind-rises (getD rs i []) (getD rs j []) (bytes j) (keys-rise i j b l)
+  grouped i j b l = kind-rises (getD rs i []) (getD rs j []) (bytes j) (faultless-rises rs f i j b l)
 
-  -- and the list is its transactions, tasks and pairs
+  -- so the list is its transactions, tasks and pairs
   split : Split rs
-  split = split-of rs known grouped
+  split = split-of rs (faultless-known rs f) grouped
 
   -- the place of each record of a kind is in the list
   transaction-here : (i : ℕ) → i < length (transactions rs) → i < length rs
@@ -142,33 +154,17 @@ module _ (rs : List (List ℕ)) (bytes : (k : ℕ) → Bytes (getD rs k [])) (f 
   pair-here : (i : ℕ) → i < length (pairs rs) → length (transactions rs) + taskCount rs + i < length rs
   pair-here i l = omega (arith, length-split rs split)
 
-  -- the numbers of the transactions, and the ids of the tasks, rise
-  transactions-rise : Rises numberOf (transactions rs)
-  transactions-rise i j b l =
-      let l′ : i < length (transactions rs) = omega arith in
-      rw (← transaction-at rs split i l′, ← transaction-at rs split j l)
-      (number-rises (getD rs i []) (getD rs j []) 1 (transaction-kind rs split i l′) (transaction-kind rs split j l) (omega arith)
-      (keys-rise i j b (transaction-here j l)))
-
-  tasks-rise : Rises numberOf (tasks rs)
-  tasks-rise i j b l =
-      let l′ : i < taskCount rs = omega arith in
-      rw (← task-at rs split i l′, ← task-at rs split j l)
-      (number-rises (getD rs (length (transactions rs) + i) []) (getD rs (length (transactions rs) + j) []) 2
-      (task-kind rs split i l′) (task-kind rs split j l) (omega arith)
-      (keys-rise (length (transactions rs) + i) (length (transactions rs) + j) (omega arith) (task-here j l)))
-
   -- the shape
   pub shape-of-faultless : Shape rs
   shape-of-faultless =
       record {
         split = split;
-        few-transactions = rw (← count-ofKind rs ways 1) (count-transactions rs (f .counts));
-        few-tasks = rw (← count-ofKind rs ways 2) (count-tasks rs (f .counts));
-        few-pairs = rw (← count-ofKind rs ways 3) (count-pairs rs (f .counts));
-        keys-rise = keys-rise;
-        transactions-rise = transactions-rise;
-        tasks-rise = tasks-rise;
+        few-transactions = few-transactions rs f;
+        few-tasks = few-tasks rs f;
+        few-pairs = few-pairs rs f;
+        keys-rise = faultless-rises rs f;
+        transactions-rise = numbers-rise 1 rs (omega arith) (faultless-rises rs f);
+        tasks-rise = numbers-rise 2 rs (omega arith) (faultless-rises rs f);
         transactions-right =
             λ i l.
             rw (← transaction-at rs split i l)
@@ -182,7 +178,7 @@ module _ (rs : List (List ℕ)) (bytes : (k : ℕ) → Bytes (getD rs k [])) (f 
             rw (← pair-at rs split i l)
             (pair-right (getD rs (length (transactions rs) + taskCount rs + i) [])
             (f .ranges (length (transactions rs) + taskCount rs + i) (pair-here i l)) (pair-kind rs split i l));
-        ways = ways;
+        ways = faultless-ways rs f;
       }
 
 -- accepted records of bytes have this shape

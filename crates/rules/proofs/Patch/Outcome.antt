@@ -1,0 +1,98 @@
+-- An outcome's records are the base's or were put in, so their form and ranges are right: it is a table unless it is broken.
+use Prim.Native.Nat.{ℕ, _<_}
+use mathlib.Core.List.{List, []}
+use mathlib.Core.Bool.{true, false, not}
+use mathlib.Core.Path.{_≡_, ap, sym, _∙_}
+use native.Mathlib.Omega.{arith}
+use borrow.Author.Tests.{not-false}
+use lib.ListN.{length, getD, length-set}
+use Rattle.rules.specs.declared.Form.the-variants.{Table, Patch}
+use Rattle.rules.specs.Blocks.{records, imageOf}
+use Rattle.rules.specs.Records.{formWrong, rangeWrong}
+use Rattle.rules.specs.Patches.{outcome}
+use Rattle.rules.specs.Refusals.{accepted, orElse, formRefusal, orderWrong, orderRefusal, rangeRefusal, countRefusal, referenceRefusal, frameVerdict, recordsVerdict, tableVerdict, patchVerdict, broken}
+use Rattle.rules.proofs.Numbers.{either, never}
+use Rattle.rules.proofs.Refusals.{accepted-first, accepted-second, no-fault-at}
+use Rattle.rules.proofs.Image.Parts.{Records}
+use Rattle.rules.proofs.Image.Frame.{frame-of, records-sized}
+use Rattle.rules.proofs.Patch.Members.{has-each, outcome-each}
+use Rattle.rules.proofs.Patch.PutIn.{put-form, put-range}
+use Rattle.rules.proofs.Patch.Valid.{Valid, valid-of, valid-few, table-of-valid, valid-not-broken, valid-imageOf}
+
+-- a list of records that is a patch: each is 32 bytes long, and its form and its ranges are right
+pub record WellFormed (ps : List (List ℕ)) : Type 0 where
+  pub sized : Records ps
+  pub forms : (k : ℕ) → k < length ps → formWrong Patch (getD ps k []) ≡ false
+  pub ranges : (k : ℕ) → k < length ps → rangeWrong (getD ps k []) ≡ false
+
+-- the records of an accepted patch are one
+pub well-formed-of : (patch : List ℕ) → accepted (patchVerdict patch) ≡ true → WellFormed (records patch)
+unfolding patchVerdict recordsVerdict
+well-formed-of patch h =
+    let ps = records patch in
+    let frame = accepted-first (frameVerdict Patch patch) (recordsVerdict Patch ps) h in
+    let rest = accepted-second (frameVerdict Patch patch) (recordsVerdict Patch ps) h in
+    let rest′ = accepted-second (formRefusal Patch ps) (orElse (orderRefusal Patch ps) (orElse (rangeRefusal Patch ps) (countRefusal Patch ps))) rest in
+    let rest″ = accepted-second (orderRefusal Patch ps) (orElse (rangeRefusal Patch ps) (countRefusal Patch ps)) rest′ in
+    record {
+      sized = records-sized Patch patch (frame-of Patch patch frame);
+      forms = no-fault-at 24 (λ k. formWrong Patch (getD ps k [])) (length ps) (omega arith) (accepted-first (formRefusal Patch ps) _ rest);
+      ranges = no-fault-at 26 (λ k. rangeWrong (getD ps k [])) (length ps) (omega arith) (accepted-first (rangeRefusal Patch ps) _ rest″);
+    }
+
+-- an accepted table, and an accepted patch
+module _ (base patch : List ℕ) (table : accepted (tableVerdict base) ≡ true) (right : accepted (patchVerdict patch) ≡ true) where
+  -- each record of the outcome is 32 bytes long
+  pub outcome-sized : Records (outcome (records base) (records patch))
+  outcome-sized =
+      outcome-each (λ r. length r ≡ 32) (records base) (records patch) (valid-of base table .sized)
+      (λ p there way. length-set p 31 0 ∙ has-each (λ r. length r ≡ 32) (records patch) (well-formed-of patch right .sized) p there)
+
+  -- its form is right, and its ranges are
+  pub outcome-forms : (k : ℕ) → k < length (outcome (records base) (records patch))
+      → formWrong Table (getD (outcome (records base) (records patch)) k []) ≡ false
+  outcome-forms =
+      outcome-each (λ r. formWrong Table r ≡ false) (records base) (records patch) (valid-of base table .faultless .forms)
+      (λ p there way. put-form p (has-each (λ r. formWrong Patch r ≡ false) (records patch) (well-formed-of patch right .forms) p there))
+
+  pub outcome-ranges : (k : ℕ) → k < length (outcome (records base) (records patch))
+      → rangeWrong (getD (outcome (records base) (records patch)) k []) ≡ false
+  outcome-ranges =
+      outcome-each (λ r. rangeWrong r ≡ false) (records base) (records patch) (valid-of base table .faultless .ranges)
+      (λ p there way. put-range p ∙ has-each (λ r. rangeWrong r ≡ false) (records patch) (well-formed-of patch right .ranges) p there)
+
+  -- so where order, counts and references are right too, the outcome is a table
+  pub outcome-valid : broken (outcome (records base) (records patch)) ≡ false → Valid (outcome (records base) (records patch))
+  outcome-valid h =
+      let rs = outcome (records base) (records patch) in
+      let all = not-false (accepted (orElse (orderRefusal Table rs) (orElse (countRefusal Table rs) (referenceRefusal rs)))) h in
+      let rest = accepted-second (orderRefusal Table rs) (orElse (countRefusal Table rs) (referenceRefusal rs)) all in
+      record {
+        sized = outcome-sized;
+        faultless =
+            record {
+              forms = outcome-forms;
+              orders = no-fault-at 5 (orderWrong rs) (length rs) (omega arith) (accepted-first (orderRefusal Table rs) _ all);
+              ranges = outcome-ranges;
+              counts = accepted-first (countRefusal Table rs) (referenceRefusal rs) rest;
+            };
+        references = accepted-second (countRefusal Table rs) (referenceRefusal rs) rest;
+      }
+
+  -- it is broken exactly where its image is refused
+  pub outcome-broken : broken (outcome (records base) (records patch)) ≡ not (accepted (tableVerdict (imageOf Table (outcome (records base) (records patch)))))
+  outcome-broken =
+      let rs = outcome (records base) (records patch) in
+      either (accepted (tableVerdict (imageOf Table rs)))
+      (λ t. valid-not-broken rs (valid-imageOf rs outcome-sized t) ∙ sym (ap not t))
+      (λ t.
+      either (broken rs)
+      (λ u. u ∙ sym (ap not t))
+      (λ u. never (accepted (tableVerdict (imageOf Table rs))) (ap accepted (table-of-valid rs (outcome-valid u))) t))
+
+  -- more records than a table holds are broken
+  pub outcome-crowded : 336 < length (outcome (records base) (records patch)) → broken (outcome (records base) (records patch)) ≡ true
+  outcome-crowded many =
+      either (broken (outcome (records base) (records patch)))
+      (λ t. t)
+      (λ t. absurd (omega (arith, valid-few (outcome (records base) (records patch)) (outcome-valid t))))

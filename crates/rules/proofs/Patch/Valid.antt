@@ -1,0 +1,115 @@
+-- What makes a list of records a table: each is 32 bytes long, and refusals 4 to 8 find no fault; then its image is accepted.
+use Prim.Native.Nat.{ℕ, _≤_}
+use mathlib.Core.List.{List, []}
+use mathlib.Core.Bool.{true, false, not}
+use mathlib.Core.Path.{_≡_, ap}
+use native.Mathlib.Omega.{arith}
+use lib.ListN.{length, getD}
+use Rattle.rules.specs.declared.Form.the-variants.{Table}
+use Rattle.rules.specs.declared.Verdict.{Verdict}
+use Rattle.rules.specs.Blocks.{records, imageOf}
+use Rattle.rules.specs.Records.{numberOf, key, formWrong, rangeWrong, tooMany, referenceWrong, transactions, tasks, taskCount}
+use Rattle.rules.specs.Refusals.{accepted, fine, orElse, refuseIf, formRefusal, orderWrong, orderRefusal, rangeRefusal, countRefusal, referenceRefusal, frameVerdict, recordsVerdict, tableVerdict, broken}
+use Rattle.rules.proofs.Refusals.{accepted-first, accepted-second, fine-both, fine-at, accepted-if, accepted-at}
+use Rattle.rules.proofs.Image.Parts.{Records}
+use Rattle.rules.proofs.Image.Frame.{frame-of, records-sized}
+use Rattle.rules.proofs.Image.Written.{frame-imageOf, records-imageOf}
+use Rattle.rules.proofs.Table.Kinds.{length-kinds}
+use Rattle.rules.proofs.Table.Order.{Rises, numbers-rise}
+use Rattle.rules.proofs.Table.Shape.{Faultless, faultless-of, faultless-known, faultless-rises, few-transactions, few-tasks, few-pairs}
+
+-- a list of records that is a table
+pub record Valid (rs : List (List ℕ)) : Type 0 where
+  pub sized : Records rs
+  pub faultless : Faultless rs
+  pub references : accepted (referenceRefusal rs) ≡ true
+
+-- the records of an accepted image are a table
+pub valid-of : (image : List ℕ) → accepted (tableVerdict image) ≡ true → Valid (records image)
+unfolding tableVerdict
+valid-of image h =
+    let frame = accepted-first (frameVerdict Table image) (orElse (recordsVerdict Table (records image)) (referenceRefusal (records image))) h in
+    let rest = accepted-second (frameVerdict Table image) (orElse (recordsVerdict Table (records image)) (referenceRefusal (records image))) h in
+    record {
+      sized = records-sized Table image (frame-of Table image frame);
+      faultless = faultless-of (records image) (accepted-first (recordsVerdict Table (records image)) (referenceRefusal (records image)) rest);
+      references = accepted-second (recordsVerdict Table (records image)) (referenceRefusal (records image)) rest;
+    }
+
+-- where refusal 7 is accepted, it is fine
+count-fine : (rs : List (List ℕ)) → accepted (countRefusal Table rs) ≡ true → countRefusal Table rs ≡ fine
+count-fine rs h =
+    let few : ℕ → Verdict = λ k. refuseIf 7 k (tooMany rs k) in
+    let rest = accepted-second (few 1) (orElse (few 2) (few 3)) h in
+    fine-both (few 1) (orElse (few 2) (few 3))
+    (accepted-if 7 1 (tooMany rs 1) (omega arith) (accepted-first (few 1) (orElse (few 2) (few 3)) h))
+    (fine-both (few 2) (few 3)
+    (accepted-if 7 2 (tooMany rs 2) (omega arith) (accepted-first (few 2) (few 3) rest))
+    (accepted-if 7 3 (tooMany rs 3) (omega arith) (accepted-second (few 2) (few 3) rest)))
+
+-- faultless records are fine
+pub faultless-fine : (rs : List (List ℕ)) → Faultless rs → recordsVerdict Table rs ≡ fine
+unfolding recordsVerdict
+faultless-fine rs f =
+    fine-both (formRefusal Table rs) (orElse (orderRefusal Table rs) (orElse (rangeRefusal Table rs) (countRefusal Table rs)))
+    (fine-at 4 (λ k. formWrong Table (getD rs k [])) (length rs) (f .forms))
+    (fine-both (orderRefusal Table rs) (orElse (rangeRefusal Table rs) (countRefusal Table rs))
+    (fine-at 5 (orderWrong rs) (length rs) (f .orders))
+    (fine-both (rangeRefusal Table rs) (countRefusal Table rs)
+    (fine-at 6 (λ k. rangeWrong (getD rs k [])) (length rs) (f .ranges))
+    (count-fine rs (f .counts))))
+
+-- what a table gives, whether its records are bytes or not
+module _ (rs : List (List ℕ)) (v : Valid rs) where
+  -- its records are in table order
+  pub valid-keys-rise : Rises key rs
+  valid-keys-rise = faultless-rises rs (v .faultless)
+
+  -- the numbers of its transactions rise, and so do the ids of its tasks
+  pub valid-transactions-rise : Rises numberOf (transactions rs)
+  valid-transactions-rise = numbers-rise 1 rs (omega arith) valid-keys-rise
+
+  pub valid-tasks-rise : Rises numberOf (tasks rs)
+  valid-tasks-rise = numbers-rise 2 rs (omega arith) valid-keys-rise
+
+  -- it has at most 64 tasks
+  pub valid-few-tasks : taskCount rs ≤ 64
+  valid-few-tasks = few-tasks rs (v .faultless)
+
+  -- and at most 16 + 64 + 256 records
+  pub valid-few : length rs ≤ 336
+  valid-few =
+      omega (
+        arith,
+        length-kinds rs (faultless-known rs (v .faultless)),
+        few-transactions rs (v .faultless),
+        few-tasks rs (v .faultless),
+        few-pairs rs (v .faultless),
+      )
+
+  -- refusal 8 is fine
+  references-fine : referenceRefusal rs ≡ fine
+  references-fine = accepted-at 8 (λ k. referenceWrong rs (getD rs k [])) (length rs) (omega arith) (v .references)
+
+  -- the records fit in 23 blocks, so its image is accepted
+  pub table-of-valid : tableVerdict (imageOf Table rs) ≡ fine
+  unfolding tableVerdict
+  table-of-valid =
+      rw (records-imageOf Table rs (v .sized))
+      (fine-both (frameVerdict Table (imageOf Table rs)) (orElse (recordsVerdict Table rs) (referenceRefusal rs))
+      (frame-imageOf Table rs (v .sized) (omega (arith, valid-few)))
+      (fine-both (recordsVerdict Table rs) (referenceRefusal rs)
+      (faultless-fine rs (v .faultless))
+      references-fine))
+
+  -- and as an outcome it is not broken
+  pub valid-not-broken : broken rs ≡ false
+  valid-not-broken =
+      ap (λ (w : Verdict). not (accepted w))
+      (fine-both (orderRefusal Table rs) (orElse (countRefusal Table rs) (referenceRefusal rs))
+      (fine-at 5 (orderWrong rs) (length rs) (v .faultless .orders))
+      (fine-both (countRefusal Table rs) (referenceRefusal rs) (count-fine rs (v .faultless .counts)) references-fine))
+
+-- records of 32 bytes whose image is accepted are a table
+pub valid-imageOf : (rs : List (List ℕ)) → Records rs → accepted (tableVerdict (imageOf Table rs)) ≡ true → Valid rs
+valid-imageOf rs sized h = rw (records-imageOf Table rs sized) at (valid-of (imageOf Table rs) h)
