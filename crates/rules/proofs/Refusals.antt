@@ -1,6 +1,6 @@
 -- Laws of the refusals: one check after another, an accepted check has found no fault, and the lowest place with a fault.
 use Prim.Native.Nat.{ℕ, _<_}
-use mathlib.Core.Bool.{Bool, true, false}
+use mathlib.Core.Bool.{Bool, true, false, _&&_, not}
 use mathlib.Core.Path.{_≡_, refl}
 use native.Mathlib.Omega.{arith}
 use borrow.Author.Tests.{eqb-true, lt-ltb, le-ltb, ne-eqb}
@@ -26,6 +26,10 @@ accepted-second v w h = rw (accepted-first v w h) at h
 pub accepted-both : (v w : Verdict) → accepted (orElse v w) ≡ true → (accepted v ≡ true) × (accepted w ≡ true)
 accepted-both v w h = (accepted-first v w h, accepted-second v w h)
 
+-- and only there, as one equation
+pub accepted-orElse : (v w : Verdict) → accepted (orElse v w) ≡ (accepted v && accepted w)
+accepted-orElse v w = either (accepted v) (λ t. rw t) (λ t. rw t t)
+
 -- two checks that find nothing, one after the other, find nothing
 pub fine-both : (v w : Verdict) → v ≡ fine → w ≡ fine → orElse v w ≡ fine
 fine-both v w p q = rw (p, q)
@@ -37,6 +41,11 @@ no-fault n p false some h = refl
 
 pub fine-if : (n p : ℕ) (fault : Bool) → fault ≡ false → refuseIf n p fault ≡ fine
 fine-if n p fault h = rw h
+
+-- it is accepted exactly where there is no fault
+pub accepted-unless : (n p : ℕ) (fault : Bool) → 0 < n → accepted (refuseIf n p fault) ≡ not fault
+accepted-unless n p true some = ne-eqb n 0 (λ e. omega arith)
+accepted-unless n p false some = refl
 
 -- a test at each place below count: where it is accepted there is no fault at any, and where there is none it is fine
 pub no-fault-at : (n : ℕ) (fault : ℕ → Bool) (count : ℕ) → 0 < n → accepted (refuseAt n fault count) ≡ true

@@ -1,10 +1,10 @@
 -- Laws of tests: what it says that two of them hold, or that neither does.
 use Prim.Native.Nat.{ℕ}
 use mathlib.Core.Bool.{Bool, true, false, _&&_, _||_, not}
-use mathlib.Core.Path.{_≡_, refl}
-use borrow.Author.Tests.{eqb-true, eq-eqb, not-false}
-use lib.Dec.{T, eqb}
-use Rattle.rules.proofs.Numbers.{never}
+use mathlib.Core.Path.{_≡_, refl, sym}
+use borrow.Author.Tests.{eqb-true, eq-eqb, ltb-true, ltb-false, le-leb, lt-leb, not-false}
+use lib.Dec.{T, eqb, ltb, leb}
+use Rattle.rules.proofs.Numbers.{either, never}
 
 -- where neither of two holds, the first does not, and the second does not
 pub neither-first : (a b : Bool) → (a || b) ≡ false → a ≡ false
@@ -18,6 +18,11 @@ neither-second false b h = h
 -- and where each of two fails, neither of them holds
 pub neither : (a b : Bool) → a ≡ false → b ≡ false → (a || b) ≡ false
 neither a b p q = rw (p, q)
+
+-- neither of two holds exactly where each fails
+pub not-either : (a b : Bool) → not (a || b) ≡ (not a && not b)
+not-either true b = refl
+not-either false b = refl
 
 -- where both of two hold, the first does, and the second does
 pub both-first : (a b : Bool) → (a && b) ≡ true → a ≡ true
@@ -38,6 +43,13 @@ same-numbers x y h = eqb-true x y (not-false (eqb x y) h)
 
 pub not-different : (x y : ℕ) → x ≡ y → not (eqb x y) ≡ false
 not-different x y h = not-fails (eqb x y) (eq-eqb x y h)
+
+-- a number is not below another exactly where that is at most it
+pub not-below : (x y : ℕ) → not (ltb x y) ≡ leb y x
+not-below x y =
+    either (ltb x y)
+    (λ t. rw t (sym (lt-leb y x (ltb-true x y t))))
+    (λ t. rw t (sym (le-leb y x (ltb-false x y t))))
 
 -- a test that holds has the value true, and the other way round
 pub T-true : (b : Bool) → T b → b ≡ true
