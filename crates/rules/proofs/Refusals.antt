@@ -9,7 +9,7 @@ use Rattle.rules.specs.declared.Form.the-variants.{Table, Patch}
 use Rattle.rules.specs.declared.Verdict.{Verdict}
 use Rattle.rules.specs.Numbers.{lowest, some}
 use Rattle.rules.specs.Refusals.{accepted, fine, refusal, refuseIf, refuseAt, orElse, numbered}
-use Rattle.rules.proofs.Numbers.{either, never, lowest-none, some-true, some-false}
+use Rattle.rules.proofs.Numbers.{either, lowest-none, some-fails, some-false}
 
 -- no refusal has the number 0
 pub numbered-some : (form : Form) (n : ℕ) → 0 < n → 0 < numbered form n
@@ -51,11 +51,7 @@ accepted-unless n p false some = refl
 pub no-fault-at : (n : ℕ) (fault : ℕ → Bool) (count : ℕ) → 0 < n → accepted (refuseAt n fault count) ≡ true
     → (k : ℕ) → k < count → fault k ≡ false
 no-fault-at n fault count positive h k l =
-    either (fault k)
-    (λ t.
-    never (some fault count) (some-true fault count k l t)
-    (no-fault n (lowest fault count) (some fault count) positive h))
-    (λ t. t)
+    some-fails fault count k l (no-fault n (lowest fault count) (some fault count) positive h)
 
 pub fine-at : (n : ℕ) (fault : ℕ → Bool) (count : ℕ) → ((k : ℕ) → k < count → fault k ≡ false)
     → refuseAt n fault count ≡ fine

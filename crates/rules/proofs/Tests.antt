@@ -33,6 +33,12 @@ pub both-second : (a b : Bool) → (a && b) ≡ true → b ≡ true
 both-second true b h = h
 both-second false b h = never false h refl
 
+-- two tests of which each holds where the other does are equal
+pub same-tests : (a b : Bool) → (a ≡ true → b ≡ true) → (b ≡ true → a ≡ true) → a ≡ b
+same-tests true b there back = sym (there refl)
+same-tests false true there back = back refl
+same-tests false false there back = refl
+
 -- a test that holds does not fail
 pub not-fails : (b : Bool) → b ≡ true → not b ≡ false
 not-fails b h = rw h
