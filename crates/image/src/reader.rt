@@ -66,6 +66,16 @@ pub fn after<'a>(reader: Reader<'a>) -> Reader<'a>
     }
 }
 
+// The reader one record further where its record is these bytes, and else the reader as it stands.
+pub fn past_record<'a, 'b>(reader: Reader<'a>, fields: &'b [u8]) -> Reader<'a>
+    ensures { λ r. ⌜ (r .image ≡ reader .entry .image) × (r .next ≡ past (records (now (reader .entry .image))) (now (fields .entry)) (reader .entry .next)) ⌝ }
+{
+    Reader {
+        image: reader.image,
+        next: number_past(reader.image, reader.next, fields),
+    }
+}
+
 // The first record of an image, as a part of it; where the image ends before 40 bytes it is shorter or empty.
 pub fn first_record(image: &[u8]) -> &[u8]
     ensures { λ r. ⌜ now r ≡ recordAt (now (image .entry)) 0 ⌝ }

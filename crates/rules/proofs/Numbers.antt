@@ -143,6 +143,15 @@ some-true test n k h passes =
 pub some-false : (test : ℕ → Bool) (n : ℕ) → lowest test n ≡ n → some test n ≡ false
 some-false test n e = le-ltb (lowest test n) n (omega arith)
 
+-- where none passes, each fails, and where some passes, it has a place
+pub some-fails : (test : ℕ → Bool) (n k : ℕ) → k < n → some test n ≡ false → test k ≡ false
+some-fails test n k h none = either (test k) (λ t. never (some test n) (some-true test n k h t) none) (λ t. t)
+
+pub some-place : (test : ℕ → Bool) (n : ℕ) → some test n ≡ true → (k : ℕ) × (k < n) × (test k ≡ true)
+some-place test n h =
+    let below = ltb-true (lowest test n) n h in
+    (lowest test n, below, lowest-passes test n below)
+
 -- below 0 nothing passes
 pub lowest-zero : (test : ℕ → Bool) → lowest test 0 ≡ 0
 unfolding lowest

@@ -1,6 +1,6 @@
 -- Laws of the refusals: one check after another, an accepted check has found no fault, and the lowest place with a fault.
 use Prim.Native.Nat.{ℕ, _<_}
-use mathlib.Core.Bool.{Bool, true, false}
+use mathlib.Core.Bool.{Bool, true, false, _&&_, not}
 use mathlib.Core.Path.{_≡_, refl}
 use native.Mathlib.Omega.{arith}
 use borrow.Author.Tests.{eqb-true, lt-ltb, le-ltb, ne-eqb}
@@ -9,7 +9,7 @@ use Rattle.rules.specs.declared.Form.the-variants.{Table, Patch}
 use Rattle.rules.specs.declared.Verdict.{Verdict}
 use Rattle.rules.specs.Numbers.{lowest, some}
 use Rattle.rules.specs.Refusals.{accepted, fine, refusal, refuseIf, refuseAt, orElse, numbered}
-use Rattle.rules.proofs.Numbers.{either, never, lowest-none, some-true, some-false}
+use Rattle.rules.proofs.Numbers.{either, lowest-none, some-fails, some-false}
 
 -- no refusal has the number 0
 pub numbered-some : (form : Form) (n : ℕ) → 0 < n → 0 < numbered form n
@@ -26,6 +26,10 @@ accepted-second v w h = rw (accepted-first v w h) at h
 pub accepted-both : (v w : Verdict) → accepted (orElse v w) ≡ true → (accepted v ≡ true) × (accepted w ≡ true)
 accepted-both v w h = (accepted-first v w h, accepted-second v w h)
 
+-- and only there, as one equation
+pub accepted-orElse : (v w : Verdict) → accepted (orElse v w) ≡ (accepted v && accepted w)
+accepted-orElse v w = either (accepted v) (λ t. rw t) (λ t. rw t t)
+
 -- two checks that find nothing, one after the other, find nothing
 pub fine-both : (v w : Verdict) → v ≡ fine → w ≡ fine → orElse v w ≡ fine
 fine-both v w p q = rw (p, q)
@@ -38,15 +42,16 @@ no-fault n p false some h = refl
 pub fine-if : (n p : ℕ) (fault : Bool) → fault ≡ false → refuseIf n p fault ≡ fine
 fine-if n p fault h = rw h
 
+-- it is accepted exactly where there is no fault
+pub accepted-unless : (n p : ℕ) (fault : Bool) → 0 < n → accepted (refuseIf n p fault) ≡ not fault
+accepted-unless n p true some = ne-eqb n 0 (λ e. omega arith)
+accepted-unless n p false some = refl
+
 -- a test at each place below count: where it is accepted there is no fault at any, and where there is none it is fine
 pub no-fault-at : (n : ℕ) (fault : ℕ → Bool) (count : ℕ) → 0 < n → accepted (refuseAt n fault count) ≡ true
     → (k : ℕ) → k < count → fault k ≡ false
 no-fault-at n fault count positive h k l =
-    either (fault k)
-    (λ t.
-    never (some fault count) (some-true fault count k l t)
-    (no-fault n (lowest fault count) (some fault count) positive h))
-    (λ t. t)
+    some-fails fault count k l (no-fault n (lowest fault count) (some fault count) positive h)
 
 pub fine-at : (n : ℕ) (fault : ℕ → Bool) (count : ℕ) → ((k : ℕ) → k < count → fault k ≡ false)
     → refuseAt n fault count ≡ fine

@@ -1,10 +1,10 @@
 -- Laws of tests: what it says that two of them hold, or that neither does.
 use Prim.Native.Nat.{ℕ}
 use mathlib.Core.Bool.{Bool, true, false, _&&_, _||_, not}
-use mathlib.Core.Path.{_≡_, refl}
-use borrow.Author.Tests.{eqb-true, eq-eqb, not-false}
-use lib.Dec.{T, eqb}
-use Rattle.rules.proofs.Numbers.{never}
+use mathlib.Core.Path.{_≡_, refl, sym}
+use borrow.Author.Tests.{eqb-true, eq-eqb, ltb-true, ltb-false, le-leb, lt-leb, not-false}
+use lib.Dec.{T, eqb, ltb, leb}
+use Rattle.rules.proofs.Numbers.{either, never}
 
 -- where neither of two holds, the first does not, and the second does not
 pub neither-first : (a b : Bool) → (a || b) ≡ false → a ≡ false
@@ -19,6 +19,11 @@ neither-second false b h = h
 pub neither : (a b : Bool) → a ≡ false → b ≡ false → (a || b) ≡ false
 neither a b p q = rw (p, q)
 
+-- neither of two holds exactly where each fails
+pub not-either : (a b : Bool) → not (a || b) ≡ (not a && not b)
+not-either true b = refl
+not-either false b = refl
+
 -- where both of two hold, the first does, and the second does
 pub both-first : (a b : Bool) → (a && b) ≡ true → a ≡ true
 both-first true b h = refl
@@ -27,6 +32,12 @@ both-first false b h = h
 pub both-second : (a b : Bool) → (a && b) ≡ true → b ≡ true
 both-second true b h = h
 both-second false b h = never false h refl
+
+-- two tests of which each holds where the other does are equal
+pub same-tests : (a b : Bool) → (a ≡ true → b ≡ true) → (b ≡ true → a ≡ true) → a ≡ b
+same-tests true b there back = sym (there refl)
+same-tests false true there back = back refl
+same-tests false false there back = refl
 
 -- a test that holds does not fail
 pub not-fails : (b : Bool) → b ≡ true → not b ≡ false
@@ -38,6 +49,13 @@ same-numbers x y h = eqb-true x y (not-false (eqb x y) h)
 
 pub not-different : (x y : ℕ) → x ≡ y → not (eqb x y) ≡ false
 not-different x y h = not-fails (eqb x y) (eq-eqb x y h)
+
+-- a number is not below another exactly where that is at most it
+pub not-below : (x y : ℕ) → not (ltb x y) ≡ leb y x
+not-below x y =
+    either (ltb x y)
+    (λ t. rw t (sym (lt-leb y x (ltb-true x y t))))
+    (λ t. rw t (sym (le-leb y x (ltb-false x y t))))
 
 -- a test that holds has the value true, and the other way round
 pub T-true : (b : Bool) → T b → b ≡ true

@@ -108,6 +108,16 @@ has-ofKind k (s ∷ rs) r =
     (λ u. rw (u, ← same-equal s r u, t) (either (has rs s) (λ v. rw v) (λ v. rw v)))
     (λ u. rw u)))
 
+-- a record of one kind that stands in a list stands among its records of that kind
+pub has-among-kind : (k : ℕ) (rs : List (List ℕ)) (r : List ℕ) → kindOf r ≡ k → has rs r ≡ true → has (ofKind k rs) r ≡ true
+has-among-kind k rs r kind h = has-ofKind k rs r ∙ rw (h, eq-eqb (kindOf r) k kind)
+
+-- and each of those stands in the list
+pub has-kind-at : (k : ℕ) (rs : List (List ℕ)) (i : ℕ) → i < length (ofKind k rs) → has rs (getD (ofKind k rs) i []) ≡ true
+has-kind-at k rs i h =
+    let r = getD (ofKind k rs) i [] in
+    both-first (has rs r) (eqb (kindOf r) k) (sym (has-ofKind k rs r) ∙ has-at (ofKind k rs) i h)
+
 -- the records that a patch takes out
 pub has-takenOut : (ps : List (List ℕ)) (r : List ℕ) → has (takenOut ps) r ≡ (has ps r && eqb (wayOf r) 0)
 unfolding has takenOut

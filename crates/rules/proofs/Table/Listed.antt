@@ -1,5 +1,5 @@
 -- What refusal 8 leaves of a table: the transactions and tasks that its records name are listed, and where.
-use Prim.Native.Nat.{ℕ, _+_, _<_}
+use Prim.Native.Nat.{ℕ, _<_}
 use mathlib.Core.List.{List, []}
 use mathlib.Core.Bool.{Bool, true, false, _||_, not}
 use mathlib.Core.Path.{_≡_, refl}
@@ -10,12 +10,12 @@ use lib.Dec.{eqb, ltb}
 use Rattle.rules.specs.declared.Form.the-variants.{Table}
 use Rattle.rules.specs.Numbers.{Bytes, le4}
 use Rattle.rules.specs.Blocks.{records}
-use Rattle.rules.specs.Records.{kindOf, numberOf, secondOf, transactions, tasks, pairs, taskCount, taskAt, placeOf, listed, periodIn, referenceWrong}
+use Rattle.rules.specs.Records.{kindOf, numberOf, secondOf, ofKind, transactions, tasks, pairs, taskCount, taskAt, placeOf, listed, periodIn, referenceWrong}
 use Rattle.rules.specs.Refusals.{accepted, orElse, frameVerdict, recordsVerdict, referenceRefusal, tableVerdict}
 use Rattle.rules.proofs.Numbers.{lowest-here, lowest-none, lowest-passes, some-true}
 use Rattle.rules.proofs.Tests.{neither-first, neither-second}
 use Rattle.rules.proofs.Refusals.{accepted-first, accepted-second, no-fault-at}
-use Rattle.rules.proofs.Table.Kinds.{Split, length-split, task-at, pair-at, kind-ofKind}
+use Rattle.rules.proofs.Table.Kinds.{kind-ofKind, ofKind-each}
 use Rattle.rules.proofs.Table.Order.{Rises}
 use Rattle.rules.proofs.Table.Shape.{Shape, shape-of}
 
@@ -81,28 +81,21 @@ module _ (rs : List (List ℕ)) (r : List ℕ) (right : referenceWrong rs r ≡ 
   pair-second e = not-false (listed (tasks rs) (secondOf r)) (neither-second (not (listed (tasks rs) (numberOf r))) _ (of-pair e))
 
 -- where refusal 8 finds no fault, all that the records name is listed
-module _ (rs : List (List ℕ)) (split : Split rs) (h : accepted (referenceRefusal rs) ≡ true) where
-  -- no record is found wrong
-  right-at : (k : ℕ) → k < length rs → referenceWrong rs (getD rs k []) ≡ false
-  right-at k l = no-fault-at 8 (λ j. referenceWrong rs (getD rs j [])) (length rs) (omega arith) h k l
-
-  -- no task, and no pair, is found wrong
-  right-task : (i : ℕ) → i < taskCount rs → referenceWrong rs (getD (tasks rs) i []) ≡ false
-  right-task i l =
-      rw (← task-at rs split i l) (right-at (length (transactions rs) + i) (omega (arith, length-split rs split)))
-
-  right-pair : (i : ℕ) → i < length (pairs rs) → referenceWrong rs (getD (pairs rs) i []) ≡ false
-  right-pair i l =
-      rw (← pair-at rs split i l) (right-at (length (transactions rs) + taskCount rs + i) (omega (arith, length-split rs split)))
+module _ (rs : List (List ℕ)) (h : accepted (referenceRefusal rs) ≡ true) where
+  -- no record of one kind is found wrong
+  right-of-kind : (x i : ℕ) → i < length (ofKind x rs) → referenceWrong rs (getD (ofKind x rs) i []) ≡ false
+  right-of-kind x =
+      ofKind-each (λ r. referenceWrong rs r ≡ false) x rs
+      (no-fault-at 8 (λ j. referenceWrong rs (getD rs j [])) (length rs) (omega arith) h)
 
   -- so all is listed
   pub listed-of : Listed rs
   listed-of =
       record {
-        transaction-listed = λ i l. task-transaction rs (getD (tasks rs) i []) (right-task i l) (kind-ofKind 2 rs i l);
-        offset-below = λ i l. task-offset rs (getD (tasks rs) i []) (right-task i l) (kind-ofKind 2 rs i l);
-        first-listed = λ i l. pair-first rs (getD (pairs rs) i []) (right-pair i l) (kind-ofKind 3 rs i l);
-        second-listed = λ i l. pair-second rs (getD (pairs rs) i []) (right-pair i l) (kind-ofKind 3 rs i l);
+        transaction-listed = λ i l. task-transaction rs (getD (tasks rs) i []) (right-of-kind 2 i l) (kind-ofKind 2 rs i l);
+        offset-below = λ i l. task-offset rs (getD (tasks rs) i []) (right-of-kind 2 i l) (kind-ofKind 2 rs i l);
+        first-listed = λ i l. pair-first rs (getD (pairs rs) i []) (right-of-kind 3 i l) (kind-ofKind 3 rs i l);
+        second-listed = λ i l. pair-second rs (getD (pairs rs) i []) (right-of-kind 3 i l) (kind-ofKind 3 rs i l);
       }
 
 -- what an accepted table gives
@@ -111,4 +104,4 @@ unfolding tableVerdict
 table-of image bytes h =
     let rest = accepted-second (frameVerdict Table image) (orElse (recordsVerdict Table (records image)) (referenceRefusal (records image))) h in
     let shape = shape-of image bytes (accepted-first (recordsVerdict Table (records image)) (referenceRefusal (records image)) rest) in
-    (shape, listed-of (records image) (shape .split) (accepted-second (recordsVerdict Table (records image)) (referenceRefusal (records image)) rest))
+    (shape, listed-of (records image) (accepted-second (recordsVerdict Table (records image)) (referenceRefusal (records image)) rest))
