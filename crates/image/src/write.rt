@@ -14,7 +14,7 @@ use rules::Form;
 const PLACES_BYTES: usize = 480;
 
 // Copies all bytes of one part over the start of another.
-fn copy_bytes(from: &[u8], to: &mut [u8])
+pub fn copy_bytes(from: &[u8], to: &mut [u8])
     requires { ⌜ length (now from) ≤ length (now to) ⌝ }
     ensures { λ _. ⌜ now (to .exit) ≡ over (now (from .entry)) (now (to .entry)) ⌝ }
 {

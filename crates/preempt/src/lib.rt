@@ -1,6 +1,6 @@
 // Who may preempt whom: the distance, the decision for a pair of tasks, and the map of a table.
 mod barred;
-mod bits;
+pub mod bits;
 pub mod decide;
 pub mod map;
 pub mod tasks;

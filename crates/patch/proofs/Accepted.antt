@@ -1,0 +1,152 @@
+-- What an accepted patch gives: its records in order, all that are taken out before all that are put in, and not too many of these.
+use Prim.Native.Nat.{ℕ, zero, suc, _+_, _*_, _-_, _≤_, _<_}
+use mathlib.Core.List.{List, []}
+use mathlib.Core.Bool.{Bool, true, false, cond, _&&_, not}
+use mathlib.Core.Path.{_≡_, sym, ap, _∙_}
+use native.Mathlib.Omega.{arith}
+use borrow.Author.Tests.{eqb-true, eqb-false, eq-eqb, ltb-true, ltb-false, not-true, not-false}
+use lib.ListN.{length, getD}
+use lib.Dec.{eqb, ltb}
+use Rattle.rules.specs.declared.Form.the-variants.{Patch}
+use Rattle.rules.specs.Numbers.{Bytes, lowest, sumTo, countTo, between}
+use Rattle.rules.specs.Blocks.{records, recordAt, recordCount}
+use Rattle.rules.specs.Records.{kindOf, numberOf, secondOf, wayOf, key, imageKey, zeroBytes, formWrong, mostOf, countOf, tooMany}
+use Rattle.rules.specs.declared.Verdict.{Verdict}
+use Rattle.rules.specs.Refusals.{accepted, orElse, refuseIf, orderWrong, formRefusal, orderRefusal, rangeRefusal, countRefusal, frameVerdict, recordsVerdict, patchVerdict}
+use Rattle.rules.proofs.Numbers.{either, length-upTo, getD-upTo, lowest-passes, lowest-below}
+use Rattle.rules.proofs.Tests.{neither-first, neither-second}
+use Rattle.rules.proofs.Refusals.{accepted-first, accepted-second, no-fault, no-fault-at}
+use Rattle.rules.proofs.Table.Ranges.{le2-small, between-least, between-most}
+use Rattle.rules.proofs.Table.Order.{Rises, rises-of-next, order-right}
+use Rattle.rules.proofs.Table.Shape.{records-bytes}
+use Rattle.rules.proofs.Patch.Outcome.{well-formed-of}
+use Rattle.patch.specs.Merge.{PutsFrom}
+
+-- the list has as many records as the image
+pub as-many : (image : List ℕ) → length (records image) ≡ recordCount image
+as-many image = length-upTo (recordAt image) (recordCount image)
+
+-- a record that is read from the image is the list's
+pub read-is : (image : List ℕ) (k : ℕ) (fields : List ℕ) → k < recordCount image → fields ≡ recordAt image k → fields ≡ getD (records image) k []
+read-is image k fields h e = e ∙ sym (getD-upTo (recordAt image) (recordCount image) k [] h)
+
+-- a key of bytes is a number of five bytes
+pub key-small : (r : List ℕ) → Bytes r → key r < 1099511627776
+key-small r bytes =
+    either (eqb (kindOf r) 3)
+    (λ t. rw t (omega (arith, bytes 0, le2-small r bytes 2, le2-small r bytes 4)))
+    (λ t. rw t (omega (arith, bytes 0, le2-small r bytes 2)))
+
+-- byte 31 of a patch record is 0 or 1
+pub way-most : (r : List ℕ) → formWrong Patch r ≡ false → wayOf r ≤ 1
+unfolding formWrong
+way-most r right =
+    ltb-false 1 (wayOf r) (neither-second (not (zeroBytes r)) _ (neither-second (not (between 1 (kindOf r) 3)) _ right))
+
+-- and its kind is 1, 2 or 3
+known-patch-kind : (r : List ℕ) → formWrong Patch r ≡ false → (1 ≤ kindOf r) × (kindOf r ≤ 3)
+unfolding formWrong
+known-patch-kind r right =
+    let known = not-false (between 1 (kindOf r) 3) (neither-first (not (between 1 (kindOf r) 3)) _ right) in
+    (between-least 1 (kindOf r) 3 known, between-most 1 (kindOf r) 3 known)
+
+-- an accepted patch
+module _ (patch : List ℕ) (right : accepted (patchVerdict patch) ≡ true) where
+  -- its records are in the image's order
+  pub patch-rises : Rises imageKey (records patch)
+  unfolding patchVerdict recordsVerdict
+  patch-rises =
+      let ps = records patch in
+      let rest = accepted-second (frameVerdict Patch patch) (recordsVerdict Patch ps) right in
+      let rest′ = accepted-second (formRefusal Patch ps) (orElse (orderRefusal Patch ps) (orElse (rangeRefusal Patch ps) (countRefusal Patch ps))) rest in
+      let orders = no-fault-at 25 (orderWrong ps) (length ps) (omega arith) (accepted-first (orderRefusal Patch ps) _ rest′) in
+      rises-of-next imageKey ps (λ k some m. order-right ps k (orders k m) some)
+
+  -- each is taken out or put in
+  pub patch-ways : (k : ℕ) → k < length (records patch) → wayOf (getD (records patch) k []) ≤ 1
+  patch-ways k l = way-most (getD (records patch) k []) (well-formed-of patch right .forms k l)
+
+  -- and all that are taken out come first
+  pub ways-rise : Bytes patch → (j k : ℕ) → j < k → k < length (records patch) → wayOf (getD (records patch) j []) ≤ wayOf (getD (records patch) k [])
+  ways-rise bytes j k h l =
+      omega (arith, patch-rises j k h l, key-small (getD (records patch) k []) (records-bytes patch bytes k))
+
+  -- so from the first record that is put in, all are
+  pub puts-from : Bytes patch → (m : ℕ) → m ≡ lowest (λ k. not (eqb (wayOf (getD (records patch) k [])) 0)) (length (records patch))
+      → PutsFrom (records patch) m
+  puts-from bytes m e k h l =
+      let ps = records patch in
+      let taken : ℕ → Bool = λ j. not (eqb (wayOf (getD ps j [])) 0) in
+      let here = lowest-passes taken (length ps) (omega arith) in
+      let other : not (eqb (wayOf (getD ps m [])) 0) ≡ true = rw e here in
+      let some = eqb-false (wayOf (getD ps m [])) 0 (not-true (eqb (wayOf (getD ps m [])) 0) other) in
+      either (ltb m k)
+      (λ t. omega (arith, ways-rise bytes m k (ltb-true m k t) l, patch-ways k l))
+      (λ t.
+      let same : k ≡ m = omega (arith, ltb-false m k t) in
+      rw same (omega (arith, patch-ways m (omega arith))))
+
+  -- and before it, none is
+  pub takes-below : (m : ℕ) → m ≡ lowest (λ k. not (eqb (wayOf (getD (records patch) k [])) 0)) (length (records patch))
+      → (k : ℕ) → k < m → wayOf (getD (records patch) k []) ≡ 0
+  takes-below m e k h =
+      eqb-true (wayOf (getD (records patch) k [])) 0
+      (not-false (eqb (wayOf (getD (records patch) k [])) 0)
+      (lowest-below (λ j. not (eqb (wayOf (getD (records patch) j [])) 0)) (length (records patch)) k (omega arith)))
+
+-- records of kind k that are put in, of the first n
+abbrev putOf : List (List ℕ) → ℕ → ℕ → ℕ
+putOf ps k n = countTo (λ j. eqb (kindOf (getD ps j [])) k && eqb (wayOf (getD ps j [])) 1) n
+
+-- one more record that is put in is counted at its kind
+one-of-three : (kind way : ℕ) → 1 ≤ kind → kind ≤ 3 → way ≡ 1
+    → 1 ≤ cond (eqb kind 1 && eqb way 1) 1 0 + cond (eqb kind 2 && eqb way 1) 1 0 + cond (eqb kind 3 && eqb way 1) 1 0
+one-of-three kind way least most put =
+    rw (eq-eqb way 1 put)
+    (either (eqb kind 1)
+    (λ t. rw t (omega arith))
+    (λ t.
+    either (eqb kind 2)
+    (λ u. rw (t, u) (omega arith))
+    (λ u. rw (t, u, eq-eqb kind 3 (omega (arith, eqb-false kind 1 t, eqb-false kind 2 u))) (omega arith))))
+
+-- from number m on, each record is put in and counted at one of the three kinds
+puts-counted : (ps : List (List ℕ)) (m n : ℕ) → n ≤ length ps → PutsFrom ps m
+    → ((k : ℕ) → k < length ps → (1 ≤ kindOf (getD ps k [])) × (kindOf (getD ps k []) ≤ 3))
+    → n ≤ m + putOf ps 1 n + putOf ps 2 n + putOf ps 3 n
+unfolding sumTo
+puts-counted ps m zero few puts kinds = omega arith
+puts-counted ps m (suc n) few puts kinds =
+    let before = puts-counted ps m n (omega arith) puts kinds in
+    either (ltb n m)
+    (λ t. omega (arith, ltb-true n m t))
+    (λ t.
+    let kind = kinds n (omega arith) in
+    let one = one-of-three (kindOf (getD ps n [])) (wayOf (getD ps n [])) (kind .0) (kind .1) (puts n (ltb-false n m t) (omega arith)) in
+    omega arith)
+
+-- of a kind of which there are not found to be too many, at most as many as allowed are put in
+put-few : (ps : List (List ℕ)) (k : ℕ) → tooMany ps k ≡ false → countOf k 1 ps ≤ mostOf k
+unfolding tooMany
+put-few ps k h = ltb-false (mostOf k) (countOf k 1 ps) (neither-second (ltb (mostOf k) (countOf k 0 ps)) _ h)
+
+-- so an accepted patch puts in at most 16 + 64 + 256 records
+pub puts-few : (patch : List ℕ) → accepted (patchVerdict patch) ≡ true → (m : ℕ) → PutsFrom (records patch) m
+    → length (records patch) ≤ m + 336
+unfolding patchVerdict recordsVerdict
+puts-few patch right m puts =
+    let ps = records patch in
+    let few : ℕ → Verdict = λ k. refuseIf 27 k (tooMany ps k) in
+    let rest = accepted-second (frameVerdict Patch patch) (recordsVerdict Patch ps) right in
+    let rest′ = accepted-second (formRefusal Patch ps) (orElse (orderRefusal Patch ps) (orElse (rangeRefusal Patch ps) (countRefusal Patch ps))) rest in
+    let rest″ = accepted-second (orderRefusal Patch ps) (orElse (rangeRefusal Patch ps) (countRefusal Patch ps)) rest′ in
+    let counts : accepted (orElse (few 1) (orElse (few 2) (few 3))) ≡ true = accepted-second (rangeRefusal Patch ps) (countRefusal Patch ps) rest″ in
+    let later = accepted-second (few 1) (orElse (few 2) (few 3)) counts in
+    let of : (k : ℕ) → accepted (few k) ≡ true → countOf k 1 ps ≤ mostOf k = λ k h. put-few ps k (no-fault 27 k (tooMany ps k) (omega arith) h) in
+    omega (
+      arith,
+      puts-counted ps m (length ps) (omega arith) puts (λ k l. known-patch-kind (getD ps k []) (well-formed-of patch right .forms k l)),
+      of 1 (accepted-first (few 1) (orElse (few 2) (few 3)) counts),
+      of 2 (accepted-first (few 2) (few 3) later),
+      of 3 (accepted-second (few 2) (few 3) later),
+    )
