@@ -1,1 +1,4 @@
 pub mod Merge
+pub mod Written
+pub mod Touched
+pub mod Carried

@@ -1,1 +1,3 @@
 mod merge;
+mod outcome;
+mod touched;

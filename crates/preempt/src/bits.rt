@@ -27,3 +27,10 @@ pub fn with_bit(bits: u64, j: usize) -> u64
 {
     bits | power(j)
 }
+
+// The bits that are set in either number.
+pub fn union(a: u64, b: u64) -> u64
+    ensures { λ r. ⌜ r ≡ bitOr a b ⌝ }
+{
+    a | b
+}

@@ -78,7 +78,7 @@ pub fn map_of(tasks: Tasks, barred: [u64; 64]) -> [u64; 64]
 }
 
 // Writes 64 rows over the start of a lent map.
-fn write_rows(map: [u64; 64], rows: &mut [u64])
+pub fn write_rows(map: [u64; 64], rows: &mut [u64])
     requires { ⌜ (length map ≡ 64) × (64 ≤ length (now rows)) ⌝ }
     ensures { λ r. ⌜ now (rows .exit) ≡ over map (now (rows .entry)) ⌝ }
 {
