@@ -1,5 +1,5 @@
 -- Laws of patches: what makes a list of records a table, which records stand in an outcome,
--- when a patch is accepted, what it leaves untouched, and the map that it makes.
+-- when a patch is accepted, what it leaves untouched, the map that it makes, and a run of patches.
 pub mod Members
 pub mod Valid
 pub mod PutIn
@@ -7,3 +7,4 @@ pub mod Outcome
 pub mod Exactly
 pub mod Untouched
 pub mod TrueMap
+pub mod Run
