@@ -1,15 +1,16 @@
 -- The count of records met in turn, one record further: the record of an image is that of the list of its records.
-use Prim.Native.Nat.{ℕ, _+_, _-_, _*_, _≤_, _<_, _^_}
+use Prim.Native.Nat.{ℕ, zero, suc, _+_, _-_, _*_, _≤_, _<_, _^_}
 use mathlib.Core.List.{List, []}
-use mathlib.Core.Bool.{cond}
+use mathlib.Core.Bool.{cond, _&&_}
 use mathlib.Core.Path.{_≡_, refl}
 use native.Mathlib.Numerals.{add-one}
 use native.Mathlib.Omega.{arith}
 use borrow.Author.Tests.{lt-ltb, le-ltb}
 use lib.ListN.{length, getD}
+use lib.Dec.{ltb}
 use Rattle.rules.specs.Blocks.{recordAt, recordCount, records, blockCount}
 use Rattle.rules.specs.Patches.{same}
-use Rattle.rules.proofs.Numbers.{length-upTo, getD-upTo}
+use Rattle.rules.proofs.Numbers.{either, length-upTo, getD-upTo}
 use Rattle.image.specs.Met.{past, metAmong}
 
 -- a usize holds the number of records of an image whose length it holds
@@ -26,6 +27,17 @@ module _ (image fields : List ℕ) (k : ℕ) where
   pub past-inside : k < recordCount image → past (records image) fields k ≡ cond (same (recordAt image k) fields) (k + 1) k
   unfolding past
   past-inside h = rw (length-upTo (recordAt image) (recordCount image), lt-ltb k (recordCount image) h, getD-upTo (recordAt image) (recordCount image) k [] h)
+
+-- the number counts up by at most one
+pub past-le : (rs : List (List ℕ)) (r : List ℕ) (k : ℕ) → past rs r k ≤ k + 1
+unfolding past
+past-le rs r k = either (ltb k (length rs) && same (getD rs k []) r) (λ t. rw t (omega arith)) (λ t. rw t (omega arith))
+
+-- so at most as many are met as were passed
+pub met-le : (rs ps : List (List ℕ)) (n : ℕ) → metAmong rs ps n ≤ n
+unfolding metAmong
+met-le rs ps zero = omega arith
+met-le rs ps (suc n) = omega (arith, past-le ps (getD rs n []) (metAmong rs ps n), met-le rs ps n)
 
 module _ (image other : List ℕ) where
   -- before the first record none is met

@@ -3,7 +3,7 @@ ghost use mathlib.Core.Path.{_≡_};
 ghost use Prim.Native.Nat.{_+_, _<_, _^_};
 ghost use lib.Dec.{leb};
 ghost use Rattle.rules.specs.Blocks.{recordAt, recordCount, records};
-ghost use Rattle.image.specs.Met.{past};
+ghost use Rattle.image.specs.Met.{past, metAmong};
 use crate::bytes::is_same;
 use crate::records::record_at;
 use crate::records::record_count;
@@ -81,4 +81,17 @@ pub fn first_record(image: &[u8]) -> &[u8]
     ensures { λ r. ⌜ now r ≡ recordAt (now (image .entry)) 0 ⌝ }
 {
     next_record(start(image))
+}
+
+// How many records of the other image, from its first on, are met in turn among the image's records.
+pub fn met_among(image: &[u8], other: &[u8]) -> usize
+    ensures { λ r. ⌜ r ≡ metAmong (records (now (image .entry))) (records (now (other .entry))) (recordCount (now (image .entry))) ⌝ }
+{
+    let mut here = start(image);
+    let mut sought = start(other);
+    while !is_done(here) {
+        sought = past_record(sought, next_record(here));
+        here = after(here);
+    }
+    sought.next
 }

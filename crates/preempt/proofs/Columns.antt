@@ -8,7 +8,7 @@ use borrow.Author.Tests.{lt-ltb, le-ltb, ltb-true, ltb-false, eqb-true, eqb-fals
 use lib.ListN.{length, getD, set, replicate, length-set, length-replicate, getD-replicate}
 use lib.Seq.{ext-getD, getD-set-same, getD-set-other}
 use lib.Dec.{ltb, eqb}
-use Rattle.rules.proofs.Numbers.{either, length-upTo, getD-upTo, upTo-ext}
+use Rattle.rules.proofs.Numbers.{either, length-upTo, getD-upTo}
 use Rattle.preempt.specs.Bits.{column}
 
 pub column-length : (n : ℕ) (f : ℕ → ℕ) → length (column n f) ≡ 64
@@ -65,13 +65,6 @@ column-more n f most =
 -- a column with a value written at its next place
 pub column-filled : (n : ℕ) (f : ℕ → ℕ) (l : List ℕ) (x : ℕ) → n < 64 → l ≡ column n f → x ≡ f n → set l n x ≡ column (n + 1) f
 column-filled n f l x most e here = rw (e, here) (column-more n f most)
-
--- columns of numbers that agree are equal
-pub column-ext : (n : ℕ) (f g : ℕ → ℕ) → ((i : ℕ) → i < n → f i ≡ g i) → column n f ≡ column n g
-unfolding column
-column-ext n f g same =
-    upTo-ext (λ i. cond (ltb i n) (f i) 0) (λ i. cond (ltb i n) (g i) 0) 64
-    (λ i h. either (ltb i n) (λ t. rw (t, same i (ltb-true i n t))) (λ t. rw t))
 
 -- another number at one of its places
 pub column-set : (n : ℕ) (f g : ℕ → ℕ) (a x : ℕ) → n ≤ 64 → a < n → ((i : ℕ) → i < n → (i ≡ a → ⊥) → f i ≡ g i) → x ≡ g a

@@ -1,5 +1,4 @@
 pub mod Columns
-pub mod SingleBits
 pub mod Maps
 pub mod Accepted
 pub mod Pairs

@@ -1,69 +1,25 @@
--- Laws of maps: their cells are the test they are made from, and one more cell may be set.
+-- Laws of maps: a map is a column of rows, and one more of its cells may be set.
 use Prim.Native.Nat.{ℕ, _^_, _≤_, _<_}
 use mathlib.Core.List.{List}
-use mathlib.Core.Bool.{Bool, true, false, cond, _&&_, _||_}
+use mathlib.Core.Bool.{Bool, true, false, cond, _&&_, _||_, or-false}
 use mathlib.Core.Path.{_≡_, refl, ap, sym, _∙_}
 use native.Mathlib.Omega.{arith}
-use borrow.Author.Tests.{lt-ltb, le-ltb, ltb-true, ltb-false, eq-eqb, ne-eqb}
+use borrow.Author.Tests.{ltb-false, eq-eqb, ne-eqb}
 use lib.Bits.{bitOr, or-lt}
 use lib.Dec.{ltb, eqb}
-use lib.ListN.{length, getD, set, replicate, List·getD-eq-default}
-use lib.Pow.{pow-lt, pow-mono}
-use Rattle.rules.specs.Preempt.{cell, rowFrom, mapFrom}
+use lib.ListN.{getD, set, replicate}
+use lib.Pow.{pow-lt}
+use Rattle.rules.specs.Preempt.{rowFrom, mapFrom}
 use Rattle.rules.proofs.Numbers.{either, sumTo-ext}
-use Rattle.preempt.specs.Bits.{bitAt, bitsTo, column, marked, withPair}
-use Rattle.preempt.proofs.Columns.{column-length, column-at, column-beyond, column-ext, column-zero, column-set}
-use Rattle.preempt.proofs.SingleBits.{bit-of-power, bit-or, bit-lacks, bits-at, bits-end, bits-small, bits-none, bits-made}
-
--- the bits of a row
-abbrev pub rowTest : ℕ → (ℕ → Bool) → ℕ → Bool
-rowTest n test j = ltb j n && test j
+use Rattle.rules.proofs.Bits.{bit-of-power, bit-or, bits-at, bits-small, bits-none, bits-made}
+use Rattle.rules.proofs.Maps.{rowTest, map-row, row-ext, map-ext}
+use Rattle.preempt.specs.Bits.{bitAt, column, marked, withPair}
+use Rattle.preempt.proofs.Columns.{column-zero, column-set}
 
 -- a map is a column of rows
 map-column : (n : ℕ) (test : ℕ → ℕ → Bool) → mapFrom n test ≡ column n (λ i. rowFrom n (test i))
 unfolding mapFrom column
 map-column n test = refl
-
-pub map-length : (n : ℕ) (test : ℕ → ℕ → Bool) → length (mapFrom n test) ≡ 64
-map-length n test = ap length (map-column n test) ∙ column-length n (λ i. rowFrom n (test i))
-
--- the row at a place that holds a task
-map-row : (n : ℕ) (test : ℕ → ℕ → Bool) (i : ℕ) → n ≤ 64 → i < n → getD (mapFrom n test) i 0 ≡ rowFrom n (test i)
-map-row n test i most h =
-    ap (λ (l : List ℕ). getD l i 0) (map-column n test) ∙ column-at n (λ i. rowFrom n (test i)) i most h
-
--- the cells of a map are the test that it is made from
-pub cell-of-map : (n : ℕ) (test : ℕ → ℕ → Bool) (i j : ℕ) → n ≤ 64 → i < n → j < n → cell (mapFrom n test) i j ≡ test i j
-cell-of-map n test i j most h l =
-    ap (λ (row : ℕ). bitAt row j) (map-row n test i most h)
-    ∙ bits-at (rowTest n (test i)) 64 j (omega arith)
-    ∙ rw (lt-ltb j n l)
-
--- rows beyond the tasks are 0, and so are cells beyond them
-pub row-beyond : (n : ℕ) (test : ℕ → ℕ → Bool) (i : ℕ) → n ≤ i → getD (mapFrom n test) i 0 ≡ 0
-row-beyond n test i past =
-    either (ltb i 64)
-    (λ t.
-    ap (λ (l : List ℕ). getD l i 0) (map-column n test) ∙ column-beyond n (λ i. rowFrom n (test i)) i past (ltb-true i 64 t))
-    (λ t. List·getD-eq-default (mapFrom n test) 0 (omega (arith, map-length n test, ltb-false i 64 t)))
-
-pub cell-beyond : (n : ℕ) (test : ℕ → ℕ → Bool) (i j : ℕ) → n ≤ 64 → i < n → n ≤ j → cell (mapFrom n test) i j ≡ false
-cell-beyond n test i j most h past =
-    let row : getD (mapFrom n test) i 0 ≡ bitsTo (rowTest n (test i)) n = map-row n test i most h ∙ bits-end (rowTest n (test i)) n 64 most (λ k l. rw (le-ltb k n l)) in
-    let small : bitsTo (rowTest n (test i)) n < 2 ^ j = omega (arith, bits-small (rowTest n (test i)) n, pow-mono past) in
-    ap (λ (r : ℕ). bitAt r j) row ∙ bit-lacks (bitsTo (rowTest n (test i)) n) j small
-
--- rows from tests that agree below n are equal, and so are maps
-pub row-ext : (n : ℕ) (test other : ℕ → Bool) → ((j : ℕ) → j < n → test j ≡ other j) → rowFrom n test ≡ rowFrom n other
-row-ext n test other same =
-    sumTo-ext (λ j. cond (rowTest n test j) (2 ^ j) 0) (λ j. cond (rowTest n other j) (2 ^ j) 0) 64
-    (λ j h. either (ltb j n) (λ t. rw (t, same j (ltb-true j n t))) (λ t. rw t))
-
-pub map-ext : (n : ℕ) (test other : ℕ → ℕ → Bool) → ((i j : ℕ) → i < n → j < n → test i j ≡ other i j) → mapFrom n test ≡ mapFrom n other
-map-ext n test other same =
-    map-column n test
-    ∙ column-ext n (λ i. rowFrom n (test i)) (λ i. rowFrom n (other i)) (λ i h. row-ext n (test i) (other i) (λ j l. same i j h l))
-    ∙ sym (map-column n other)
 
 -- where no test passes, each row is 0
 pub map-none : (n : ℕ) (test : ℕ → ℕ → Bool) → ((i j : ℕ) → test i j ≡ false) → replicate 64 0 ≡ mapFrom n test
@@ -97,10 +53,6 @@ map-marked n test a b most h l =
     ∙ sym (map-column n more)
 
 -- tests put together in another order
-or-false : (x : Bool) → (x || false) ≡ x
-or-false true = refl
-or-false false = refl
-
 regroup : (x y p q : Bool) → ((x || y) || (p && q)) ≡ (x || (y || (q && p)))
 regroup true y p q = refl
 regroup false true p q = refl

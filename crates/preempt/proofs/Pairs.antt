@@ -13,9 +13,10 @@ use Rattle.rules.specs.Preempt.{bars, barred, mapFrom}
 use Rattle.rules.proofs.Numbers.{either, lowest-zero, lowest-le, lowest-more, lowest-passes, some-true, some-false}
 use Rattle.rules.proofs.Table.Shape.{Shape}
 use Rattle.rules.proofs.Table.Listed.{Listed, number-at-place, place-below}
+use Rattle.rules.proofs.Maps.{map-ext}
 use Rattle.preempt.specs.Bits.{withPair}
 use Rattle.preempt.specs.Tasks.{barredMap}
-use Rattle.preempt.proofs.Maps.{map-ext, map-with-pair}
+use Rattle.preempt.proofs.Maps.{map-with-pair}
 
 -- some number below k + 1 passes a test where one below k does, or k itself
 pub some-step : (test : ℕ → Bool) (k : ℕ) → some test (k + 1) ≡ (some test k || test k)

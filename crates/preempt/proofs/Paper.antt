@@ -19,8 +19,8 @@ use Rattle.rules.proofs.Tests.{both-first, both-second}
 use Rattle.rules.proofs.Table.Ranges.{task-ranges}
 use Rattle.rules.proofs.Table.Shape.{Shape}
 use Rattle.rules.proofs.Table.Listed.{Listed, table-of}
+use Rattle.rules.proofs.Maps.{cell-of-map}
 use Rattle.preempt.specs.Paper.{Together, period, Psi, Forbids, Reaches, Preempted}
-use Rattle.preempt.proofs.Maps.{cell-of-map}
 
 -- (7): the remainder by cases
 pub distance-above : (t oi oj : ℕ) → oi < t → oj < t → oj ≤ oi → distance t oi oj ≡ oi - oj

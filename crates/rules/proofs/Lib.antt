@@ -1,6 +1,8 @@
 pub mod Numbers
 pub mod Tests
 pub mod Bytes
+pub mod Bits
+pub mod Maps
 pub mod Blocks
 pub mod Refusals
 pub mod Image

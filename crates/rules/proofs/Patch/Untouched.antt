@@ -6,7 +6,7 @@ use mathlib.Core.Path.{_≡_, refl, ap, sym, _∙_}
 use borrow.Author.Tests.{eq-eqb, eqb-true}
 use lib.ListN.{length, getD, set}
 use lib.Dec.{eqb}
-use Rattle.rules.specs.Records.{kindOf, numberOf, secondOf, periodOf, sortOf, transactions, tasks, pairs, taskCount, placeOf, listed, periodIn}
+use Rattle.rules.specs.Records.{kindOf, numberOf, secondOf, periodOf, sortOf, transactions, tasks, pairs, taskCount, taskAt, placeOf, listed, periodIn}
 use Rattle.rules.specs.Preempt.{names, bars, barred, decided}
 use Rattle.rules.specs.Patches.{has, takenOut, putIn, outcome, concerns, touched, oldPlace}
 use Rattle.rules.proofs.Numbers.{either, never, some-true, some-fails, some-place}
@@ -134,7 +134,11 @@ module _ (base patch : List (List ℕ)) (i : ℕ) (untouched : touched base patc
     pub old-record : getD (tasks base) (oldPlace base patch i) [] ≡ taskRecord base patch i
     old-record = found .1
 
-    -- and its transaction, which the outcome lists, has the period that it had
+    -- and whose id is its own: it is carried over by its id
+    pub old-id : taskAt base (oldPlace base patch i) .id ≡ taskAt (outcome base patch) i .id
+    old-id = ap numberOf old-record
+
+    -- its transaction, which the outcome lists, has the period that it had
     pub period-before : Valid (outcome base patch)
         → periodIn (outcome base patch) (secondOf (taskRecord base patch i)) ≡ periodIn base (secondOf (taskRecord base patch i))
     period-before after =

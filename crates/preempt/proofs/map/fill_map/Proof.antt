@@ -12,7 +12,7 @@ use Rattle.rules.specs.Records.{taskCount}
 use Rattle.rules.specs.Preempt.{decided}
 use Rattle.rules.specs.Blocks.{records}
 use Rattle.rules.specs.declared.Verdict.{Verdict}
-use Rattle.preempt.proofs.Maps.{map-length}
+use Rattle.rules.proofs.Maps.{map-length}
 use Rattle.preempt.proofs.Calls.{map-refused, map-short, map-filled}
 use Rattle.preempt.proofs.map.fill_map.Statement.{statement}
 use Rattle.preempt.proofs.map.fill_map.Tie as tie

@@ -9,10 +9,10 @@ use borrow.Author.Tests.{lt-ltb, le-ltb}
 use borrow.Author.Needs.{needs}
 use lib.Dec.{ltb}
 use Rattle.rules.proofs.Numbers.{sumTo-zero}
+use Rattle.rules.proofs.Bits.{bits-more, bits-same, bits-room, bits-end}
 use Rattle.preempt.specs.declared.tasks.Tasks.{Tasks}
 use Rattle.preempt.specs.Tasks.{decidedBy}
 use Rattle.preempt.specs.Bits.{bitsTo}
-use Rattle.preempt.proofs.SingleBits.{bits-more, bits-same, bits-room, bits-end}
 use Rattle.preempt.proofs.map.row.Statement.{statement}
 use Rattle.preempt.proofs.map.row.Tie as tie
 

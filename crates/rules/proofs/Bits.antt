@@ -8,9 +8,16 @@ use borrow.Author.Tests.{ltb-true, ltb-false, eq-eqb, ne-eqb, eqb-true, eqb-fals
 use lib.Bits.{bitOr, or-shr, or-step}
 use lib.Pow.{pow-pos, pow-mono, pow-add, pow-lt, high}
 use lib.Dec.{ltb, eqb}
 use Rattle.rules.specs.Numbers.{sumTo}
 use Rattle.rules.proofs.Numbers.{either, sumTo-step, sumTo-zero, sumTo-ext}
-use Rattle.preempt.specs.Bits.{bitAt, bitsTo}
+
+-- bit j, counted from the lowest
+abbrev pub bitAt : ℕ → ℕ → Bool
+bitAt n j = eqb (n / 2 ^ j % 2) 1
+
+-- the number whose bits below n are set where the test passes
+abbrev pub bitsTo : (ℕ → Bool) → ℕ → ℕ
+bitsTo test n = sumTo (λ j. cond (test j) (2 ^ j) 0) n
 
 -- a higher power of two is an even multiple of a lower one
 higher-power : (j m : ℕ) → j < m → 2 ^ m ≡ (2 ^ (m - j - 1) * 2) * 2 ^ j

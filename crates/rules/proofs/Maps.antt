@@ -1,0 +1,61 @@
+-- Laws of maps: their cells are the test that they are made from, because each row is made of its bits.
+use Prim.Native.Nat.{ℕ, _^_, _≤_, _<_}
+use mathlib.Core.Bool.{Bool, false, cond, _&&_}
+use mathlib.Core.Path.{_≡_, ap, _∙_}
+use native.Mathlib.Omega.{arith}
+use borrow.Author.Tests.{lt-ltb, le-ltb, ltb-true, ltb-false}
+use lib.Dec.{ltb}
+use lib.ListN.{length, getD, List·getD-eq-default}
+use lib.Pow.{pow-mono}
+use Rattle.rules.specs.Preempt.{cell, rowFrom, mapFrom}
+use Rattle.rules.proofs.Numbers.{either, length-upTo, getD-upTo, upTo-ext, sumTo-ext}
+use Rattle.rules.proofs.Bits.{bitAt, bitsTo, bit-lacks, bits-at, bits-end, bits-small}
+
+-- the bits of a row
+abbrev pub rowTest : ℕ → (ℕ → Bool) → ℕ → Bool
+rowTest n test j = ltb j n && test j
+
+-- a map has 64 rows
+pub map-length : (n : ℕ) (test : ℕ → ℕ → Bool) → length (mapFrom n test) ≡ 64
+unfolding mapFrom
+map-length n test = length-upTo (λ i. cond (ltb i n) (rowFrom n (test i)) 0) 64
+
+-- the row at a place that holds a task
+pub map-row : (n : ℕ) (test : ℕ → ℕ → Bool) (i : ℕ) → n ≤ 64 → i < n → getD (mapFrom n test) i 0 ≡ rowFrom n (test i)
+unfolding mapFrom
+map-row n test i most h =
+    getD-upTo (λ i. cond (ltb i n) (rowFrom n (test i)) 0) 64 i 0 (omega arith) ∙ rw (lt-ltb i n h)
+
+-- the cells of a map are the test that it is made from
+pub cell-of-map : (n : ℕ) (test : ℕ → ℕ → Bool) (i j : ℕ) → n ≤ 64 → i < n → j < n → cell (mapFrom n test) i j ≡ test i j
+cell-of-map n test i j most h l =
+    ap (λ (row : ℕ). bitAt row j) (map-row n test i most h)
+    ∙ bits-at (rowTest n (test i)) 64 j (omega arith)
+    ∙ rw (lt-ltb j n l)
+
+-- rows beyond the tasks are 0, and so are cells beyond them
+pub row-beyond : (n : ℕ) (test : ℕ → ℕ → Bool) (i : ℕ) → n ≤ i → getD (mapFrom n test) i 0 ≡ 0
+unfolding mapFrom
+row-beyond n test i past =
+    either (ltb i 64)
+    (λ t.
+    getD-upTo (λ i. cond (ltb i n) (rowFrom n (test i)) 0) 64 i 0 (ltb-true i 64 t) ∙ rw (le-ltb i n past))
+    (λ t. List·getD-eq-default (mapFrom n test) 0 (omega (arith, map-length n test, ltb-false i 64 t)))
+
+pub cell-beyond : (n : ℕ) (test : ℕ → ℕ → Bool) (i j : ℕ) → n ≤ 64 → i < n → n ≤ j → cell (mapFrom n test) i j ≡ false
+cell-beyond n test i j most h past =
+    let row : getD (mapFrom n test) i 0 ≡ bitsTo (rowTest n (test i)) n = map-row n test i most h ∙ bits-end (rowTest n (test i)) n 64 most (λ k l. rw (le-ltb k n l)) in
+    let small : bitsTo (rowTest n (test i)) n < 2 ^ j = omega (arith, bits-small (rowTest n (test i)) n, pow-mono past) in
+    ap (λ (r : ℕ). bitAt r j) row ∙ bit-lacks (bitsTo (rowTest n (test i)) n) j small
+
+-- rows from tests that agree below n are equal, and so are maps
+pub row-ext : (n : ℕ) (test other : ℕ → Bool) → ((j : ℕ) → j < n → test j ≡ other j) → rowFrom n test ≡ rowFrom n other
+row-ext n test other same =
+    sumTo-ext (λ j. cond (rowTest n test j) (2 ^ j) 0) (λ j. cond (rowTest n other j) (2 ^ j) 0) 64
+    (λ j h. either (ltb j n) (λ t. rw (t, same j (ltb-true j n t))) (λ t. rw t))
+
+pub map-ext : (n : ℕ) (test other : ℕ → ℕ → Bool) → ((i j : ℕ) → i < n → j < n → test i j ≡ other i j) → mapFrom n test ≡ mapFrom n other
+unfolding mapFrom
+map-ext n test other same =
+    upTo-ext (λ i. cond (ltb i n) (rowFrom n (test i)) 0) (λ i. cond (ltb i n) (rowFrom n (other i)) 0) 64
+    (λ i h. either (ltb i n) (λ t. rw (t, row-ext n (test i) (other i) (λ j l. same i j (ltb-true i n t) l))) (λ t. rw t))
