@@ -5,3 +5,5 @@ pub mod Putting
 pub mod Passing
 pub mod Meeting
 pub mod Merging
+pub mod Writing
+pub mod Touching

@@ -1,3 +1,4 @@
+mod absent;
 mod merge;
 mod outcome;
 mod touched;
