@@ -7,18 +7,19 @@ use native.Mathlib.Omega.{arith}
 use borrow.Author.Tests.{eqb-true, eqb-false, eq-eqb, ltb-true, ltb-false, not-true, not-false}
 use lib.ListN.{length, getD}
 use lib.Dec.{eqb, ltb}
-use Rattle.rules.specs.declared.Form.the-variants.{Patch}
+use Rattle.rules.specs.declared.Form.the-variants.{Table, Patch}
 use Rattle.rules.specs.Numbers.{Bytes, lowest, sumTo, countTo, between}
 use Rattle.rules.specs.Blocks.{records, recordAt, recordCount}
 use Rattle.rules.specs.Records.{kindOf, numberOf, secondOf, wayOf, key, imageKey, zeroBytes, formWrong, mostOf, countOf, tooMany}
 use Rattle.rules.specs.declared.Verdict.{Verdict}
-use Rattle.rules.specs.Refusals.{accepted, orElse, refuseIf, orderWrong, formRefusal, orderRefusal, rangeRefusal, countRefusal, frameVerdict, recordsVerdict, patchVerdict}
+use Rattle.rules.specs.Refusals.{accepted, orElse, refuseIf, orderWrong, formRefusal, orderRefusal, rangeRefusal, countRefusal, referenceRefusal, frameVerdict, recordsVerdict, tableVerdict, patchVerdict}
 use Rattle.rules.proofs.Numbers.{either, length-upTo, getD-upTo, lowest-passes, lowest-below}
 use Rattle.rules.proofs.Tests.{neither-first, neither-second}
 use Rattle.rules.proofs.Refusals.{accepted-first, accepted-second, no-fault, no-fault-at}
 use Rattle.rules.proofs.Table.Ranges.{le2-small, between-least, between-most}
 use Rattle.rules.proofs.Table.Order.{Rises, rises-of-next, order-right}
 use Rattle.rules.proofs.Table.Shape.{records-bytes}
+use Rattle.rules.proofs.Patch.Valid.{valid-of}
 use Rattle.rules.proofs.Patch.Outcome.{well-formed-of}
 use Rattle.patch.specs.Merge.{PutsFrom}
 
@@ -50,8 +51,26 @@ known-patch-kind r right =
     let known = not-false (between 1 (kindOf r) 3) (neither-first (not (between 1 (kindOf r) 3)) _ right) in
     (between-least 1 (kindOf r) 3 known, between-most 1 (kindOf r) 3 known)
 
+-- the records of an accepted table are accepted
+pub records-accepted : (base : List ℕ) → accepted (tableVerdict base) ≡ true → accepted (recordsVerdict Table (records base)) ≡ true
+unfolding tableVerdict
+records-accepted base table =
+    accepted-first (recordsVerdict Table (records base)) (referenceRefusal (records base))
+    (accepted-second (frameVerdict Table base) (orElse (recordsVerdict Table (records base)) (referenceRefusal (records base))) table)
+
+-- the records of an accepted table are in the image's order
+pub base-rises : (base : List ℕ) → accepted (tableVerdict base) ≡ true → Rises imageKey (records base)
+base-rises base table =
+    rises-of-next imageKey (records base)
+    (λ k some m. order-right (records base) k (valid-of base table .faultless .orders k m) some)
+
 -- an accepted patch
 module _ (patch : List ℕ) (right : accepted (patchVerdict patch) ≡ true) where
+  -- its frame is right
+  pub patch-frame : accepted (frameVerdict Patch patch) ≡ true
+  unfolding patchVerdict
+  patch-frame = accepted-first (frameVerdict Patch patch) (recordsVerdict Patch (records patch)) right
+
   -- its records are in the image's order
   pub patch-rises : Rises imageKey (records patch)
   unfolding patchVerdict recordsVerdict

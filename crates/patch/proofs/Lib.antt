@@ -5,5 +5,7 @@ pub mod Putting
 pub mod Passing
 pub mod Meeting
 pub mod Merging
+pub mod Lacking
 pub mod Writing
 pub mod Touching
+pub mod Carrying

@@ -64,7 +64,7 @@ module _ (rs : List (List ℕ)) (sized : Records rs) where
       let long = length-imageOf Table rs sized in
       let front : take (512 * blocksFor (length rs)) (over (imageOf Table rs) room) ≡ imageOf Table rs = take-at (imageOf Table rs) (drop (length (imageOf Table rs)) room) (512 * blocksFor (length rs)) long in
       let same : length (over (imageOf Table rs) room) ≡ length room = simp (length-append, length-drop) (omega arith) in
-      rw (writable-where room holds ∙ t, count-joined, cut-joined)
+      rw (writable-where room holds ∙ t, cut-joined, count-joined)
       (record { same-length = same; inside = omega arith; judged = ap (λ (image : List ℕ). accepted (tableVerdict image)) front; image = λ right. front }))
       (λ t.
       rw (writable-where room holds ∙ t)

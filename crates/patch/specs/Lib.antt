@@ -2,3 +2,4 @@ pub mod Merge
 pub mod Written
 pub mod Touched
 pub mod Carried
+pub mod Call

@@ -1,3 +1,5 @@
+-- The space is as long as what is asked of it.
+use native.Mathlib.Omega.{arith}
 use borrow.Author.Needs.{needs}
 use Rattle.patch.proofs.outcome.write_outcome.Statement.{statement}
 use Rattle.patch.proofs.outcome.write_outcome.Tie as tie
@@ -9,7 +11,7 @@ slice-aggregate-write-in : tie.Need-slice-aggregate-write-in
 slice-aggregate-write-in c = search needs
 
 write-in-requires : tie.Need-write-in-requires
-write-in-requires c κs = ?
+write-in-requires c κs = (c .before .before .before .before .before .before .pre .0, (c .before .before .before .before .before .before .pre .1 .0, (omega (arith, c .before .before .record-space .ensures), c .before .before .before .before .before .before .pre .1 .1)))
 
 same-length : tie.Need-same-length
 same-length c = search needs
