@@ -1,8 +1,8 @@
 -- Sets of places: a set marks the places that pass a test, bit by bit.
-use Prim.Native.Nat.{ℕ, suc, _+_, _^_, _≤_, _<_}
-use mathlib.Core.List.{List, []}
-use mathlib.Core.Bool.{Bool, true, false, cond, _&&_, _||_}
-use mathlib.Core.Path.{_≡_, refl, ap, sym, _∙_}
+use Prim.Native.Nat.{ℕ, suc, _+_, _^_, _<_}
+use mathlib.Core.List.{List}
+use mathlib.Core.Bool.{Bool, false, _||_}
+use mathlib.Core.Path.{_≡_, sym, _∙_}
 use native.Mathlib.Numerals.{add-one}
 use native.Mathlib.Omega.{arith}
 use borrow.Author.Tests.{eqb-true, eq-eqb, ne-eqb, lt-ltb, le-ltb, ltb-true, ltb-false}
@@ -12,9 +12,9 @@ use lib.ListN.{getD}
 use lib.Pow.{pow-pos}
 use Rattle.rules.specs.Numbers.{lowest, some}
 use Rattle.rules.specs.Records.{kindOf, numberOf, secondOf}
-use Rattle.rules.proofs.Numbers.{either, lowest-passes, lowest-below, lowest-le}
-use Rattle.rules.proofs.Bits.{bit-lacks, bit-of-power, bit-or, bits-at}
-use Rattle.preempt.specs.Bits.{bitAt, bitsTo}
+use Rattle.rules.proofs.Numbers.{either, never, lowest-passes, lowest-below, lowest-zero, some-false}
+use Rattle.rules.proofs.Bits.{bit-lacks, bit-of-power, bit-or}
+use Rattle.rules.proofs.Tests.{same-tests}
 use Rattle.table.specs.Numbers.{Rising, placeAmong}
 use Rattle.patch.specs.Touched.{Marks, concernsTask}
 
@@ -26,10 +26,6 @@ marks-none count test none i l = bit-lacks 0 i (pow-pos i) ∙ sym (none i l)
 pub marks-either : (count : ℕ) (test other : ℕ → Bool) (a b : ℕ) → Marks count test a → Marks count other b
     → Marks count (λ i. test i || other i) (bitOr a b)
 marks-either count test other a b p q i l = bit-or a b i ∙ rw (p i l, q i l)
-
--- the same places by another test
-pub marks-as : (count : ℕ) (test other : ℕ → Bool) (set : ℕ) → ((i : ℕ) → i < count → test i ≡ other i) → Marks count test set → Marks count other set
-marks-as count test other set same p i l = p i l ∙ same i l
 
 -- one more number that is asked
 pub some-more : (test : ℕ → Bool) (n : ℕ) → some test (n + 1) ≡ (some test n || test n)
@@ -44,16 +40,58 @@ some-more test n =
     (λ u. rw (u, lt-ltb n (suc n) (omega arith)))
     (λ u. rw (u, le-ltb (suc n) (suc n) (omega arith))))))
 
--- among numbers that rise, a number stands at its place alone
-module _ (ids : List ℕ) (count x : ℕ) (rising : Rising ids count) where
-  -- and at no place where it has none
-  pub marks-absent : placeAmong ids count x ≡ count → Marks count (λ i. eqb x (getD ids i 0)) 0
-  marks-absent none =
-      marks-none count (λ i. eqb x (getD ids i 0))
-      (λ i l. ne-eqb x (getD ids i 0) (λ e. absurd (differs i (omega arith) (sym e))))
-    where
-      differs : (i : ℕ) → i < placeAmong ids count x → getD ids i 0 ≡ x → ⊥
-      differs i l e = let z : _≡_ {A = ℕ} 0 1 = ap (λ (b : Bool). cond b 0 1) (sym (eq-eqb (getD ids i 0) x e) ∙ lowest-below (λ k. eqb (getD ids k 0) x) count i l) in omega arith
+-- places that pass one of the tests below k
+module _ (count : ℕ) (test : ℕ → ℕ → Bool) where
+  -- below 0 there is no test
+  pub marks-start : Marks count (λ i. some (test i) 0) 0
+  marks-start = marks-none count (λ i. some (test i) 0) (λ i l. some-false (test i) 0 (lowest-zero (test i)))
 
-  pub marks-place : (place : ℕ) → place ≡ placeAmong ids count x → place < count → Marks count (λ i. eqb x (getD ids i 0)) (2 ^ place)
-  marks-place place e inside i l = ?
+  -- one more test adds the places that pass it
+  pub marks-more : (k a b : ℕ) → Marks count (λ i. some (test i) k) a → Marks count (λ i. test i k) b → Marks count (λ i. some (test i) (k + 1)) (bitOr a b)
+  marks-more k a b p q i l = marks-either count (λ j. some (test j) k) (λ j. test j k) a b p q i l ∙ sym (some-more (test i) k)
+
+-- of numbers that rise no two are equal
+pub rising-apart : (ids : List ℕ) (count : ℕ) → Rising ids count → (i j : ℕ) → i < count → j < count → getD ids i 0 ≡ getD ids j 0 → i ≡ j
+rising-apart ids count rising i j l m same =
+    either (ltb i j)
+    (λ t. absurd (omega (arith, rising i j (ltb-true i j t) m)))
+    (λ t.
+    either (ltb j i)
+    (λ u. absurd (omega (arith, rising j i (ltb-true j i u) l)))
+    (λ u. omega (arith, ltb-false i j t, ltb-false j i u)))
+
+-- so that a number that is found stands at its place alone
+pub marks-place : (ids : List ℕ) (count x place : ℕ) → Rising ids count → place ≡ placeAmong ids count x → place < count → Marks count (λ i. eqb x (getD ids i 0)) (2 ^ place)
+marks-place ids count x place rising found inside i l =
+    let here : getD ids place 0 ≡ x = rw found (eqb-true (getD ids (placeAmong ids count x) 0) x (lowest-passes (λ k. eqb (getD ids k 0) x) count (omega arith))) in
+    bit-of-power place i
+    ∙ same-tests (eqb i place) (eqb x (getD ids i 0))
+    (λ t. eq-eqb x (getD ids i 0) (rw (eqb-true i place t) (sym here)))
+    (λ t. eq-eqb i place (rising-apart ids count rising i place l inside (sym (eqb-true x (getD ids i 0) t) ∙ sym here)))
+
+-- and one that is not found stands nowhere
+pub marks-absent : (ids : List ℕ) (count x : ℕ) → placeAmong ids count x ≡ count → Marks count (λ i. eqb x (getD ids i 0)) 0
+marks-absent ids count x none =
+    marks-none count (λ i. eqb x (getD ids i 0))
+    (λ i l.
+    ne-eqb x (getD ids i 0)
+    (λ e.
+    never (eqb (getD ids i 0) x) (eq-eqb (getD ids i 0) x (sym e)) (lowest-below (λ k. eqb (getD ids k 0) x) count i (omega arith))))
+
+-- whether a patch record concerns a task, by the record's kind
+module _ (p : List ℕ) (id transaction : ℕ) where
+  -- a transaction's record concerns the tasks of the transaction
+  pub concerns-transaction : kindOf p ≡ 1 → eqb (numberOf p) transaction ≡ concernsTask p id transaction
+  concerns-transaction kind = rw kind
+
+  -- a task's record concerns the task
+  pub concerns-task : kindOf p ≡ 2 → eqb (numberOf p) id ≡ concernsTask p id transaction
+  concerns-task kind = rw kind (either (eqb (numberOf p) id) (λ t. rw t) (λ t. rw t))
+
+  -- a pair concerns the two that it names
+  pub concerns-pair : kindOf p ≡ 3 → (eqb (numberOf p) id || eqb (secondOf p) id) ≡ concernsTask p id transaction
+  concerns-pair kind = rw kind (either (eqb (numberOf p) id || eqb (secondOf p) id) (λ t. rw t) (λ t. rw t))
+
+  -- a record of another kind concerns none
+  pub concerns-none : (kindOf p ≡ 1 → ⊥) → (kindOf p ≡ 2 → ⊥) → (kindOf p ≡ 3 → ⊥) → concernsTask p id transaction ≡ false
+  concerns-none first second third = rw (ne-eqb (kindOf p) 1 first, ne-eqb (kindOf p) 2 second, ne-eqb (kindOf p) 3 third)

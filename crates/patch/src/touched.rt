@@ -78,7 +78,10 @@ pub fn touched_tasks(patch: &[u8], ids: &[u32], transactions: &[u32], count: usi
     let mut set: u64 = 0;
     let mut k: usize = 0;
     while k < records {
-        set = union(set, concerned(ids, transactions, count, record_at(patch, k)));
+        set = union(
+            set,
+            concerned(ids, transactions, count, record_at(patch, k)),
+        );
         k += 1;
     }
     set
