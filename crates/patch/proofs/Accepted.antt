@@ -16,6 +16,7 @@ use Rattle.rules.specs.Refusals.{accepted, orElse, refuseIf, orderWrong, formRe
 use Rattle.rules.proofs.Numbers.{either, length-upTo, getD-upTo, lowest-passes, lowest-below}
 use Rattle.rules.proofs.Tests.{neither-first, neither-second}
 use Rattle.rules.proofs.Refusals.{accepted-first, accepted-second, no-fault, no-fault-at}
+use Rattle.rules.proofs.Image.Frame.{frame-of}
 use Rattle.rules.proofs.Table.Ranges.{le2-small, between-least, between-most}
 use Rattle.rules.proofs.Table.Order.{Rises, rises-of-next, order-right}
 use Rattle.rules.proofs.Table.Shape.{records-bytes}
@@ -50,6 +51,13 @@ unfolding formWrong
 known-patch-kind r right =
     let known = not-false (between 1 (kindOf r) 3) (neither-first (not (between 1 (kindOf r) 3)) _ right) in
     (between-least 1 (kindOf r) 3 known, between-most 1 (kindOf r) 3 known)
+
+-- an accepted table has at most 23 blocks
+pub table-long : (image : List ℕ) → accepted (tableVerdict image) ≡ true → length image ≤ 11776
+unfolding tableVerdict
+table-long image table =
+    let f = frame-of Table image (accepted-first (frameVerdict Table image) (orElse (recordsVerdict Table (records image)) (referenceRefusal (records image))) table) in
+    omega (arith, f .whole, f .not-too-many)
 
 -- the records of an accepted table are accepted
 pub records-accepted : (base : List ℕ) → accepted (tableVerdict base) ≡ true → accepted (recordsVerdict Table (records base)) ≡ true

@@ -9,3 +9,4 @@ pub mod Lacking
 pub mod Writing
 pub mod Touching
 pub mod Carrying
+pub mod Calling
