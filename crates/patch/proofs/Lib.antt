@@ -10,3 +10,4 @@ pub mod Writing
 pub mod Touching
 pub mod Carrying
 pub mod Calling
+pub mod Running
