@@ -5,6 +5,7 @@
 
 #![forbid(unsafe_code)]
 
+pub mod afresh;
 pub mod answer;
 pub mod blocks;
 pub mod bound_call;

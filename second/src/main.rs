@@ -13,7 +13,7 @@ use second::report::report;
 use second::stream::{Call, Case};
 
 const USAGE: &str = "usage: second bounds | generate SEED LETTERS COUNT | answer | figure2 \
-                     (LETTERS are some of T, P, M, B and A)";
+                     (LETTERS are some of T, P, M, B, A and R)";
 
 /// What the command line asks for.
 enum Command {
