@@ -16,6 +16,7 @@ pub mod digest;
 pub mod figure2;
 pub mod generate;
 pub mod map_call;
+pub mod numbered_cases;
 pub mod patch_call;
 pub mod preempt;
 pub mod record_faults;

@@ -9,11 +9,13 @@ use second::answer::answer;
 use second::blocks::{image_of, Form, BLOCK_BYTES};
 use second::figure2::figure2;
 use second::generate::write_stream;
+use second::numbered_cases::{patch_of, runs_of};
 use second::report::report;
 use second::stream::{Call, Case};
 
 const USAGE: &str = "usage: second bounds | generate SEED LETTERS COUNT | answer | figure2 \
-                     (LETTERS are some of T, P, M, B, A and R)";
+                     | patch NUMBER | case NUMBER \
+                     (LETTERS are some of T, P, M, B, A and R; NUMBER is 11, 12 or 13)";
 
 /// What the command line asks for.
 enum Command {
@@ -25,6 +27,8 @@ enum Command {
     },
     Answer,
     Figure2,
+    Patch(Vec<u8>),
+    Runs(Vec<Case>),
 }
 
 fn main() -> ExitCode {
@@ -49,6 +53,8 @@ fn command_from(words: &[&str]) -> Option<Command> {
         ["bounds"] => Some(Command::Bounds),
         ["answer"] => Some(Command::Answer),
         ["figure2"] => Some(Command::Figure2),
+        ["patch", number] => patch_of(number.parse().ok()?).map(Command::Patch),
+        ["case", number] => runs_of(number.parse().ok()?).map(Command::Runs),
         ["generate", seed, letters, count] => Some(Command::Generate {
             seed: seed.parse().ok()?,
             calls: calls_from(letters)?,
@@ -72,6 +78,8 @@ fn run(command: Command) -> io::Result<()> {
         Command::Generate { seed, calls, count } => write_stream(seed, &calls, count, &mut output)?,
         Command::Answer => answer_all(&mut input, &mut output)?,
         Command::Figure2 => output.write_all(&image_of(Form::Table, &figure2().records()))?,
+        Command::Patch(patch) => output.write_all(&patch)?,
+        Command::Runs(runs) => runs.iter().try_for_each(|run| run.write(&mut output))?,
     }
     output.flush()
 }
