@@ -22,6 +22,7 @@ pub mod preempt;
 pub mod record_faults;
 pub mod records;
 pub mod report;
+pub mod sorts;
 pub mod stream;
 pub mod table;
 pub mod verdict;

@@ -64,6 +64,14 @@ fn cases_are_streams_of_runs() {
 }
 
 #[test]
+fn sorts_are_counted_where_there_are_patch_calls() {
+    let patch_calls = run(&["generate", "3", "A", "50"], &[]).stdout;
+    assert_eq!(printed(&["sorts"], &patch_calls).lines().count(), 16);
+    let others = run(&["generate", "3", "TPMBR", "50"], &[]).stdout;
+    assert_eq!(printed(&["sorts"], &others), "");
+}
+
+#[test]
 fn no_tasks_print_zeros() {
     assert_eq!(
         printed(&["bounds"], &table_image(&Table::default())),
