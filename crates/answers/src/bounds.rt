@@ -33,13 +33,13 @@ fn answer_in(
     rows: &mut [u64],
     ids: &mut [u16],
 ) -> bool {
-    if !space::fill(image, image_bytes) {
+    if space::fill(image, image_bytes) < image_bytes {
         return false;
     }
-    if !space::fill_rows(rows, row_count) {
+    if space::fill_rows(rows, row_count) < row_count {
         return false;
     }
-    if !space::fill_ids(ids, id_count) {
+    if space::fill_ids(ids, id_count) < id_count {
         return false;
     }
     answer_call(
