@@ -27,6 +27,20 @@ pub fn ids() -> [u16; 96]
     [0; 96]
 }
 
+// Room for the image that a patch call writes, every byte 255.
+pub fn room() -> [u8; 12_800]
+    ensures { λ r. ⌜ 12800 ≡ length r ⌝ }
+{
+    [255; 12_800]
+}
+
+// Room for the map that a step of a run writes, every byte 255.
+pub fn full_rows() -> [u64; 80]
+    ensures { λ r. ⌜ 80 ≡ length r ⌝ }
+{
+    [18_446_744_073_709_551_615; 80]
+}
+
 // Room for the bytes of the longest map.
 fn row_bytes() -> [u8; 640]
     ensures { λ r. ⌜ 640 ≡ length r ⌝ }
