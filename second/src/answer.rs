@@ -1,6 +1,7 @@
 //! The line that answers a case.
 
-use crate::bound_call::{bound_call, Bounds};
+use crate::afresh::{Afresh, Standing};
+use crate::bound_call::{bound_call, Bounds, ID_ENTRIES};
 use crate::digest;
 use crate::map_call::map_call;
 use crate::patch_call::{patch_call, PatchRefusal, Patched};
@@ -12,16 +13,21 @@ const ACCEPTED: Refusal = Refusal::new(0, 0);
 
 /// Makes the call of the case and writes the call's letter and numbers, without a line feed.
 pub fn answer(case: &mut Case) -> String {
-    let numbers = match case.call {
-        Call::TableVerdict => verdict_numbers(records_of_table(&case.image)),
-        Call::PatchVerdict => verdict_numbers(records_of_patch(&case.image)),
-        Call::Map => map_numbers(case),
-        Call::Bound => bound_numbers(case),
-        Call::Patch => patch_numbers(case),
-    };
     let letter = char::from(case.call.letter());
+    match case.call {
+        Call::TableVerdict => line(letter, verdict_numbers(records_of_table(&case.image))),
+        Call::PatchVerdict => line(letter, verdict_numbers(records_of_patch(&case.image))),
+        Call::Map => line(letter, map_numbers(case)),
+        Call::Bound => line(letter, bound_numbers(case)),
+        Call::Patch => line(letter, patch_numbers(case)),
+        Call::Run => line_afresh(case),
+    }
+}
+
+/// A mark and the numbers behind it.
+fn line(mark: char, numbers: Vec<u64>) -> String {
     let numbers: String = numbers.iter().map(|number| format!(" {number}")).collect();
-    format!("{letter}{numbers}")
+    format!("{mark}{numbers}")
 }
 
 /// Number and place of what a call gave.
@@ -38,7 +44,14 @@ fn map_numbers(case: &mut Case) -> Vec<u64> {
 
 fn bound_numbers(case: &mut Case) -> Vec<u64> {
     let given = bound_call(&case.image, &case.map_read, &mut case.ids);
-    let bounds: Bounds = given.unwrap_or_default();
+    let mut numbers = found_numbers(given);
+    numbers.push(digest::of_ids(&case.ids));
+    numbers
+}
+
+/// Number and place of a bound call, the tasks, the four bounds and the chain's length.
+fn found_numbers(given: Result<Bounds, Refusal>) -> Vec<u64> {
+    let bounds = given.unwrap_or_default();
     let mut numbers = verdict_numbers(given);
     numbers.extend([
         bounds.tasks as u64,
@@ -47,30 +60,80 @@ fn bound_numbers(case: &mut Case) -> Vec<u64> {
         bounds.transactions,
         bounds.levels,
         bounds.length as u64,
-        digest::of_ids(&case.ids),
     ]);
     numbers
 }
 
 fn patch_numbers(case: &mut Case) -> Vec<u64> {
-    let (refusal, patched, offending) = match patch_call(
+    let given = patch_call(
         &case.image,
         &case.patch,
         &case.map_read,
         &mut case.room,
         &mut case.map_written,
-    ) {
-        Ok(patched) => (ACCEPTED, patched, &[][..]),
-        Err(PatchRefusal { refusal, offending }) => (refusal, Patched::default(), offending),
-    };
-    vec![
-        u64::from(refusal.number),
-        refusal.place as u64,
-        patched.touched as u64,
-        patched.length as u64,
-        offending.len() as u64,
-        digest::of_bytes(offending.iter().copied()),
+    );
+    let mut numbers = patched_numbers(&given);
+    numbers.extend([
+        digest::of_bytes(offending_part(&given).iter().copied()),
         digest::of_bytes(case.room.iter().copied()),
         digest::of_rows(&case.map_written),
-    ]
+    ]);
+    numbers
+}
+
+/// Number and place of a patch call, the touched tasks, the outcome's length and that of the offending part.
+fn patched_numbers(given: &Result<Patched, PatchRefusal>) -> Vec<u64> {
+    let patched = given.unwrap_or_default();
+    let mut numbers = verdict_numbers(given.map_err(|refused| refused.refusal));
+    numbers.extend([
+        patched.touched as u64,
+        patched.length as u64,
+        offending_part(given).len() as u64,
+    ]);
+    numbers
+}
+
+/// The part of the patch that a patch call hands back.
+fn offending_part<'patch>(given: &Result<Patched, PatchRefusal<'patch>>) -> &'patch [u8] {
+    given.err().map_or(&[], |refused| refused.offending)
+}
+
+/// The line of a run with every step worked out afresh.
+fn line_afresh(case: &Case) -> String {
+    let start = Afresh::start(&case.image, &case.map_read);
+    let mut run = start.expect("a run starts from a valid table and its true map");
+    let mut line = start_of_run(&run.standing());
+    for step in &case.steps {
+        let given = run.step(step);
+        line += &part_of_run(&given, &run.standing());
+    }
+    line
+}
+
+/// The letter of a run and what stands at first.
+pub fn start_of_run(standing: &Standing) -> String {
+    line(char::from(Call::Run.letter()), standing_numbers(standing))
+}
+
+/// The part of a run's line for one step: what was given, and what stands after it.
+pub fn part_of_run(given: &Result<Patched, PatchRefusal>, standing: &Standing) -> String {
+    let mut numbers = patched_numbers(given);
+    numbers.extend(offending_part(given).iter().map(|byte| u64::from(*byte)));
+    numbers.extend(standing_numbers(standing));
+    format!(" {}", line('|', numbers))
+}
+
+/// The digests of table and map, the bounds over that map with the chain's ids, and the rows of the tasks.
+fn standing_numbers(standing: &Standing) -> Vec<u64> {
+    let mut ids = [0; ID_ENTRIES];
+    let given = bound_call(&standing.image, &standing.map, &mut ids);
+    let bounds = given.unwrap_or_default();
+    let mut numbers = vec![
+        digest::of_bytes(standing.image.iter().copied()),
+        digest::of_rows(&standing.map),
+    ];
+    numbers.extend(found_numbers(given));
+    numbers.extend(ids[..bounds.length].iter().map(|id| u64::from(*id)));
+    numbers.extend(&standing.map[..bounds.tasks]);
+    numbers
 }

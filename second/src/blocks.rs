@@ -1,7 +1,7 @@
 //! The blocks of an image: their frame, their check, and where their records stand.
 
 use crate::bytes::{put_u16, u16_at};
-use crate::records::{Record, RECORD_BYTES};
+use crate::records::{patch_records, Record, RECORD_BYTES};
 
 /// Bytes of one block.
 pub const BLOCK_BYTES: usize = 512;
@@ -143,4 +143,9 @@ pub fn image_of(form: Form, records: &[Record]) -> Vec<u8> {
     }
     mend_checks(&mut image);
     image
+}
+
+/// The image of the patch that takes out and puts in these records.
+pub fn patch_image(taken_out: &[Record], put_in: &[Record]) -> Vec<u8> {
+    image_of(Form::Patch, &patch_records(taken_out, put_in))
 }

@@ -5,6 +5,7 @@
 
 #![forbid(unsafe_code)]
 
+pub mod afresh;
 pub mod answer;
 pub mod blocks;
 pub mod bound_call;
@@ -15,11 +16,13 @@ pub mod digest;
 pub mod figure2;
 pub mod generate;
 pub mod map_call;
+pub mod numbered_cases;
 pub mod patch_call;
 pub mod preempt;
 pub mod record_faults;
 pub mod records;
 pub mod report;
+pub mod sorts;
 pub mod stream;
 pub mod table;
 pub mod verdict;

@@ -9,11 +9,15 @@ use second::answer::answer;
 use second::blocks::{image_of, Form, BLOCK_BYTES};
 use second::figure2::figure2;
 use second::generate::write_stream;
+use second::numbered_cases::{patch_of, runs_of};
 use second::report::report;
+use second::sorts::Sorts;
 use second::stream::{Call, Case};
 
-const USAGE: &str = "usage: second bounds | generate SEED LETTERS COUNT | answer | figure2 \
-                     (LETTERS are some of T, P, M, B and A)";
+const USAGE: &str =
+    "usage: second bounds | generate SEED LETTERS COUNT | answer | sorts | figure2 \
+                     | patch NUMBER | case NUMBER \
+                     (LETTERS are some of T, P, M, B, A and R; NUMBER is 11, 12 or 13)";
 
 /// What the command line asks for.
 enum Command {
@@ -24,7 +28,10 @@ enum Command {
         count: usize,
     },
     Answer,
+    Sorts,
     Figure2,
+    Patch(Vec<u8>),
+    Runs(Vec<Case>),
 }
 
 fn main() -> ExitCode {
@@ -48,7 +55,10 @@ fn command_from(words: &[&str]) -> Option<Command> {
     match words {
         ["bounds"] => Some(Command::Bounds),
         ["answer"] => Some(Command::Answer),
+        ["sorts"] => Some(Command::Sorts),
         ["figure2"] => Some(Command::Figure2),
+        ["patch", number] => patch_of(number.parse().ok()?).map(Command::Patch),
+        ["case", number] => runs_of(number.parse().ok()?).map(Command::Runs),
         ["generate", seed, letters, count] => Some(Command::Generate {
             seed: seed.parse().ok()?,
             calls: calls_from(letters)?,
@@ -71,7 +81,10 @@ fn run(command: Command) -> io::Result<()> {
         Command::Bounds => output.write_all(report(&read_image(&mut input)?).as_bytes())?,
         Command::Generate { seed, calls, count } => write_stream(seed, &calls, count, &mut output)?,
         Command::Answer => answer_all(&mut input, &mut output)?,
+        Command::Sorts => output.write_all(sorts_in(&mut input)?.lines().as_bytes())?,
         Command::Figure2 => output.write_all(&image_of(Form::Table, &figure2().records()))?,
+        Command::Patch(patch) => output.write_all(&patch)?,
+        Command::Runs(runs) => runs.iter().try_for_each(|run| run.write(&mut output))?,
     }
     output.flush()
 }
@@ -97,4 +110,13 @@ fn answer_all(input: &mut impl Read, output: &mut impl Write) -> io::Result<()> 
             }
         }
     }
+}
+
+/// The sorts of patch call in the stream.
+fn sorts_in(input: &mut impl Read) -> io::Result<Sorts> {
+    let mut sorts = Sorts::default();
+    while let Some(case) = Case::read(input)? {
+        sorts.count(&case);
+    }
+    Ok(sorts)
 }

@@ -107,6 +107,14 @@ impl Record {
     }
 }
 
+/// The records of the patch that takes out and puts in these records, each part in table order.
+pub fn patch_records(taken_out: &[Record], put_in: &[Record]) -> Vec<Record> {
+    let put_in = put_in.iter().map(|record| record.with_way(PUT_IN));
+    let mut records: Vec<Record> = taken_out.iter().copied().chain(put_in).collect();
+    records.sort_by_key(Record::order);
+    records
+}
+
 /// A transaction and its period.
 #[derive(Clone, Copy, PartialEq, Eq, Debug)]
 pub struct Transaction {

@@ -1,18 +1,31 @@
 //! The stream of cases: one header of 32 bytes for each case and then everything that is lent.
 
-use std::io::{self, ErrorKind, Read, Write};
+pub mod parts;
+pub mod step;
 
-use crate::bytes::{put_u32, u32_at};
+use std::io::{self, Read, Write};
+
+use crate::afresh::Afresh;
+use crate::stream::parts::{
+    broken, lengths_in, put_lengths, read_bytes, read_ids, read_rows, Length, MOST_IMAGE,
+    MOST_ROOM, MOST_ROWS,
+};
+use crate::stream::step::Step;
 
 const HEADER_BYTES: usize = 32;
-/// Where the six lengths stand in the header, and the most that each may be.
-const LENGTHS: [(usize, usize); 6] = [
-    (4, 24_576),
-    (8, 24_576),
-    (12, 80),
-    (16, 80),
-    (20, 96),
-    (24, 12_800),
+/// The most ids of a room for them.
+const MOST_IDS: usize = 96;
+/// The most steps of a run.
+const MOST_STEPS: usize = 32;
+/// The lengths of a header, in the order in which what they count follows.
+const LENGTHS: [Length; 7] = [
+    (4, MOST_IMAGE),
+    (8, MOST_IMAGE),
+    (12, MOST_ROWS),
+    (16, MOST_ROWS),
+    (20, MOST_IDS),
+    (24, MOST_ROOM),
+    (28, MOST_STEPS),
 ];
 
 /// The calls that a case can make.
@@ -23,6 +36,7 @@ pub enum Call {
     Map,
     Bound,
     Patch,
+    Run,
 }
 
 impl Call {
@@ -34,6 +48,7 @@ impl Call {
             b'M' => Some(Call::Map),
             b'B' => Some(Call::Bound),
             b'A' => Some(Call::Patch),
+            b'R' => Some(Call::Run),
             _ => None,
         }
     }
@@ -46,6 +61,7 @@ impl Call {
             Call::Map => b'M',
             Call::Bound => b'B',
             Call::Patch => b'A',
+            Call::Run => b'R',
         }
     }
 }
@@ -60,6 +76,7 @@ pub struct Case {
     pub map_written: Vec<u64>,
     pub ids: Vec<u16>,
     pub room: Vec<u8>,
+    pub steps: Vec<Step>,
 }
 
 impl Case {
@@ -73,6 +90,7 @@ impl Case {
             map_written: Vec::new(),
             ids: Vec::new(),
             room: Vec::new(),
+            steps: Vec::new(),
         }
     }
 
@@ -85,12 +103,11 @@ impl Case {
             self.map_written.len(),
             self.ids.len(),
             self.room.len(),
+            self.steps.len(),
         ];
         let mut header = [0; HEADER_BYTES];
         header[0] = self.call.letter();
-        for (length, (at, _)) in lengths.into_iter().zip(LENGTHS) {
-            put_u32(&mut header, at, length as u32);
-        }
+        put_lengths(&mut header, &LENGTHS, lengths);
         output.write_all(&header)?;
         output.write_all(&self.image)?;
         output.write_all(&self.patch)?;
@@ -100,7 +117,8 @@ impl Case {
         for id in &self.ids {
             output.write_all(&id.to_le_bytes())?;
         }
-        output.write_all(&self.room)
+        output.write_all(&self.room)?;
+        self.steps.iter().try_for_each(|step| step.write(output))
     }
 
     /// The next case of a stream, or none where the stream ends between two cases.
@@ -109,15 +127,9 @@ impl Case {
             return Ok(None);
         };
         let call = Call::from_letter(header[0]).ok_or_else(|| broken("a letter without a call"))?;
-        let mut lengths = [0; LENGTHS.len()];
-        for (length, (at, most)) in lengths.iter_mut().zip(LENGTHS) {
-            *length = u32_at(&header, at) as usize;
-            if *length > most {
-                return Err(broken("a length past its limit"));
-            }
-        }
-        let [image, patch, map_read, map_written, ids, room] = lengths;
-        Ok(Some(Case {
+        let [image, patch, map_read, map_written, ids, room, steps] =
+            lengths_in(&header, &LENGTHS)?;
+        let case = Case {
             call,
             image: read_bytes(input, image)?,
             patch: read_bytes(input, patch)?,
@@ -125,12 +137,20 @@ impl Case {
             map_written: read_rows(input, map_written)?,
             ids: read_ids(input, ids)?,
             room: read_bytes(input, room)?,
-        }))
+            steps: (0..steps)
+                .map(|_| Step::read(input))
+                .collect::<io::Result<_>>()?,
+        };
+        match case.starts_rightly() {
+            true => Ok(Some(case)),
+            false => Err(broken("a run on a table that is refused or on another map")),
+        }
     }
-}
 
-fn broken(what: &str) -> io::Error {
-    io::Error::new(ErrorKind::InvalidData, format!("the stream has {what}"))
+    /// Whether the case, if it is a run, starts from a valid table and its true map.
+    fn starts_rightly(&self) -> bool {
+        self.call != Call::Run || Afresh::start(&self.image, &self.map_read).is_some()
+    }
 }
 
 /// The next header, or none where the input ends before it.
@@ -142,30 +162,4 @@ fn read_header(input: &mut impl Read) -> io::Result<Option<[u8; HEADER_BYTES]>> 
         Err(bytes) if bytes.is_empty() => Ok(None),
         Err(_) => Err(broken("a header cut short")),
     }
-}
-
-fn read_bytes(input: &mut impl Read, length: usize) -> io::Result<Vec<u8>> {
-    let mut bytes = vec![0; length];
-    input
-        .read_exact(&mut bytes)
-        .map_err(|error| match error.kind() {
-            ErrorKind::UnexpectedEof => broken("a case cut short"),
-            _ => error,
-        })?;
-    Ok(bytes)
-}
-
-fn read_rows(input: &mut impl Read, rows: usize) -> io::Result<Vec<u64>> {
-    let number = |_| {
-        let mut bytes = [0; 8];
-        bytes.copy_from_slice(&read_bytes(input, 8)?);
-        Ok(u64::from_le_bytes(bytes))
-    };
-    (0..rows).map(number).collect()
-}
-
-fn read_ids(input: &mut impl Read, entries: usize) -> io::Result<Vec<u16>> {
-    let bytes = read_bytes(input, 2 * entries)?;
-    let number = |entry: &[u8]| u16::from_le_bytes([entry[0], entry[1]]);
-    Ok(bytes.chunks_exact(2).map(number).collect())
 }

@@ -80,7 +80,7 @@ fn refusals_are_met_at_low_and_high_places() {
 
 /// The stream of this seed over all calls.
 fn stream(seed: u64, count: usize) -> Vec<u8> {
-    let calls: Vec<Call> = b"TPMBA"
+    let calls: Vec<Call> = b"TPMBAR"
         .iter()
         .copied()
         .filter_map(Call::from_letter)
@@ -99,7 +99,7 @@ fn the_same_arguments_give_the_same_bytes() {
 
 #[test]
 fn streams_stay_small() {
-    assert!(stream(7, CASES).len() < 5_000_000);
+    assert!(stream(7, CASES).len() < 12_000_000);
 }
 
 #[test]

@@ -3,8 +3,10 @@
 mod common;
 
 use common::*;
+use second::answer::answer;
 use second::blocks::{records_in, right_check};
 use second::figure2::figure2;
+use second::numbered_cases::{patch_of, runs_of};
 use second::preempt::{is_set, may_be_preempted, true_map};
 use second::records::Task;
 use second::table::Table;
@@ -60,8 +62,12 @@ fn cases_7_to_10_two_transactions_and_pairs() {
 #[test]
 fn case_11_a_one_way_pair_is_put_in() {
     let base = figure2();
-    let patch = patch_image(&[], &[one_way(12, 23).record()]);
-    let outcome = apply(&table_image(&base), &patch, &true_map(&base)).unwrap();
+    let outcome = apply(
+        &table_image(&base),
+        &patch_of(11).unwrap(),
+        &true_map(&base),
+    )
+    .unwrap();
     assert_eq!(outcome.patched.touched, 2);
     let (bounds, chain) = bounds_with(&Table::read(&records_in(&outcome.image)), &outcome.map);
     assert_eq!((bounds.chain, chain), (7, vec![11, 12, 21]));
@@ -71,22 +77,12 @@ fn case_11_a_one_way_pair_is_put_in() {
     );
 }
 
-/// The patch of case 12.
-fn task_10() -> Vec<u8> {
-    let added = Task {
-        transaction: 2,
-        stack: 2,
-        ..task(10, 5, 0, 100)
-    };
-    patch_image(&[], &[added.record()])
-}
-
 #[test]
 fn case_12_a_task_before_all_others_is_put_in() {
     let base = figure2();
     let base_map = true_map(&base);
     assert!(is_set(&base_map, 0, 1));
-    let outcome = apply(&table_image(&base), &task_10(), &base_map).unwrap();
+    let outcome = apply(&table_image(&base), &patch_of(12).unwrap(), &base_map).unwrap();
     assert!(is_set(&outcome.map, 1, 2));
     assert_eq!(outcome.patched.touched, 1);
     let (bounds, _) = bounds_with(&Table::read(&records_in(&outcome.image)), &outcome.map);
@@ -97,16 +93,53 @@ fn case_12_a_task_before_all_others_is_put_in() {
 #[test]
 fn case_13_the_same_patch_again_and_a_task_with_another_size() {
     let base = figure2();
-    let first = apply(&table_image(&base), &task_10(), &true_map(&base)).unwrap();
-    let again = apply(&first.image, &task_10(), &first.map);
+    let first = apply(
+        &table_image(&base),
+        &patch_of(12).unwrap(),
+        &true_map(&base),
+    )
+    .unwrap();
+    let again = apply(&first.image, &patch_of(12).unwrap(), &first.map);
     assert_eq!(again.err(), Some(Refusal::new(10, 0)));
-    let heavier = Task {
-        stack: 4,
-        ..base.tasks[5]
-    };
-    let patch = patch_image(&[heavier.record()], &[]);
-    let absent = apply(&table_image(&base), &patch, &true_map(&base));
+    let absent = apply(
+        &table_image(&base),
+        &patch_of(13).unwrap(),
+        &true_map(&base),
+    );
     assert_eq!(absent.err(), Some(Refusal::new(9, 0)));
+}
+
+/// The numbers of each step in the runs of a case, without the digests.
+fn steps_of(number: u32) -> Vec<Vec<u64>> {
+    let runs = runs_of(number).unwrap().into_iter();
+    let lines: Vec<String> = runs.map(|mut run| answer(&mut run)).collect();
+    let steps = lines.iter().flat_map(|line| line.split(" | ").skip(1));
+    let numbers =
+        |step: &str| -> Vec<u64> { step.split(' ').map(|n| n.parse().unwrap()).collect() };
+    let without_digests = |mut step: Vec<u64>| {
+        let digests = 5 + step[4] as usize;
+        step.drain(digests..digests + 2);
+        step
+    };
+    steps.map(|step| without_digests(numbers(step))).collect()
+}
+
+#[test]
+fn runs_of_the_cases_show_their_numbers() {
+    let case_11 = [0, 0, 2, 512, 0, 0, 0, 6, 7, 9, 9, 10, 3, 11, 12, 21];
+    assert_eq!(steps_of(11)[0][..16], case_11);
+    let case_12 = [0, 0, 1, 512, 0, 0, 0, 7, 8, 12, 9, 12, 3, 11, 12, 23];
+    assert_eq!(steps_of(12)[0][..16], case_12);
+    let row_of_11 = steps_of(12)[0][17];
+    assert_eq!(row_of_11, 0b101_0101);
+    let case_13 = steps_of(13);
+    assert_eq!(case_13[0], steps_of(12)[0]);
+    assert_eq!(case_13[1][..5], [10, 0, 0, 0, 0]);
+    assert_eq!(case_13[1][5..], case_13[0][5..]);
+    assert_eq!(case_13[2][..5], [9, 0, 0, 0, 32]);
+    let patch = patch_of(13).unwrap();
+    let taken_out: Vec<u64> = patch[8..40].iter().copied().map(u64::from).collect();
+    assert_eq!(case_13[2][5..37], taken_out);
 }
 
 #[test]

@@ -1,55 +1,17 @@
-//! Patch calls: runs against working the outcome out afresh, refusals, and what is kept.
+//! Patch calls: refusals, what is touched and what is kept.
 
 mod common;
 
-use std::collections::BTreeMap;
-
 use common::*;
-use second::blocks::{image_of, records_in, Form};
+use second::blocks::{patch_image, records_in};
 use second::figure2::figure2;
 use second::generate::Generator;
 use second::patch_call::patch_call;
 use second::preempt::{is_set, true_map};
-use second::records::{Key, Record, Task, Transaction, PUT_IN};
+use second::records::{Record, Task, Transaction};
 use second::stream::Call;
 use second::table::Table;
-use second::verdict::{records_of_patch, records_of_table, Refusal};
-
-/// The records of the outcome, worked out by key.
-fn by_key(base: &[Record], patch: &[Record]) -> Vec<Record> {
-    let mut records: BTreeMap<Key, Record> =
-        base.iter().map(|record| (record.key(), *record)).collect();
-    for record in patch {
-        match record.way() {
-            PUT_IN => records.insert(record.key(), record.with_way(0)),
-            _ => records.remove(&record.key()),
-        };
-    }
-    records.into_values().collect()
-}
-
-#[test]
-fn runs_of_patches_equal_working_it_out_afresh() {
-    let mut generator = Generator::from_seed(31);
-    let mut accepted = 0;
-    for _ in 0..2000 {
-        let case = generator.next_case(Call::Patch);
-        let (Ok(base), Ok(patch)) = (records_of_table(&case.image), records_of_patch(&case.patch))
-        else {
-            continue;
-        };
-        let map = true_map(&Table::read(&base));
-        let Ok(outcome) = apply(&case.image, &case.patch, &map) else {
-            continue;
-        };
-        let afresh = by_key(&base, &patch);
-        assert_eq!(outcome.image, image_of(Form::Table, &afresh));
-        assert_eq!(outcome.map, true_map(&Table::read(&afresh)));
-        assert_eq!(records_of_table(&outcome.image), Ok(afresh));
-        accepted += 1;
-    }
-    assert!(accepted > 800);
-}
+use second::verdict::Refusal;
 
 #[test]
 fn the_generator_carries_image_and_map_along_its_runs() {

@@ -42,6 +42,36 @@ fn figure_2_is_the_example_and_the_command() {
 }
 
 #[test]
+fn patches_of_cases_are_the_examples_and_the_commands() {
+    let examples: [(&str, &[u8]); 3] = [
+        ("11", include_bytes!("../../examples/case11.pa")),
+        ("12", include_bytes!("../../examples/case12.pa")),
+        ("13", include_bytes!("../../examples/case13.pa")),
+    ];
+    for (number, example) in examples {
+        assert_eq!(run(&["patch", number], &[]).stdout, example);
+    }
+}
+
+#[test]
+fn cases_are_streams_of_runs() {
+    for (number, runs, steps) in [("11", 1, 1), ("12", 1, 1), ("13", 2, 3)] {
+        let answers = printed(&["answer"], &run(&["case", number], &[]).stdout);
+        assert_eq!(answers.lines().count(), runs);
+        assert!(answers.lines().all(|line| line.starts_with("R ")));
+        assert_eq!(answers.matches(" | ").count(), steps);
+    }
+}
+
+#[test]
+fn sorts_are_counted_where_there_are_patch_calls() {
+    let patch_calls = run(&["generate", "3", "A", "50"], &[]).stdout;
+    assert_eq!(printed(&["sorts"], &patch_calls).lines().count(), 16);
+    let others = run(&["generate", "3", "TPMBR", "50"], &[]).stdout;
+    assert_eq!(printed(&["sorts"], &others), "");
+}
+
+#[test]
 fn no_tasks_print_zeros() {
     assert_eq!(
         printed(&["bounds"], &table_image(&Table::default())),
@@ -72,13 +102,16 @@ fn input_past_the_longest_table_is_refusal_1() {
 
 #[test]
 fn wrong_usage_is_told_on_standard_error() {
-    let wrong: [&[&str]; 6] = [
+    let wrong: [&[&str]; 9] = [
         &[],
         &["other"],
         &["bounds", "more"],
         &["generate", "1", "T"],
         &["generate", "1", "TX", "3"],
         &["generate", "1", "", "3"],
+        &["case"],
+        &["case", "14"],
+        &["patch", "twelve"],
     ];
     for arguments in wrong {
         let output = run(arguments, &[]);

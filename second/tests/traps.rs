@@ -3,7 +3,7 @@
 mod common;
 
 use common::*;
-use second::blocks::records_in;
+use second::blocks::{patch_image, records_in};
 use second::figure2::figure2;
 use second::preempt::{distance, is_set, may_be_preempted, true_map};
 use second::records::{Task, Transaction, MISSING_JITTER};

@@ -4,9 +4,8 @@ use crate::print;
 use crate::space;
 use rules::Bounds;
 
-// The numbers of an answer, in the order of the stream's description.
-fn print_answer(found: Bounds) {
-    print::letter(b'B');
+// The numbers of a bound call, in the order of the stream's description.
+pub fn print_found(found: Bounds) {
     print::number(found.number as u64);
     print::number(found.place as u64);
     print::number(found.tasks as u64);
@@ -19,7 +18,8 @@ fn print_answer(found: Bounds) {
 
 // Makes the call on this image, map and room, and prints its answer.
 fn answer_call(image: &[u8], rows: &[u64], ids: &mut [u16]) {
-    print_answer(stack::call::find_bounds(image, rows, ids));
+    print::letter(b'B');
+    print_found(stack::call::find_bounds(image, rows, ids));
     print::number(digest::of_ids(ids));
     print::line_end();
 }
@@ -33,13 +33,13 @@ fn answer_in(
     rows: &mut [u64],
     ids: &mut [u16],
 ) -> bool {
-    if !space::fill(image, image_bytes) {
+    if space::fill(image, image_bytes) < image_bytes {
         return false;
     }
-    if !space::fill_rows(rows, row_count) {
+    if space::fill_rows(rows, row_count) < row_count {
         return false;
     }
-    if !space::fill_ids(ids, id_count) {
+    if space::fill_ids(ids, id_count) < id_count {
         return false;
     }
     answer_call(

@@ -1,5 +1,6 @@
 // The digest of a buffer, as docs/STREAM.md describes it.
 ghost use Prim.Native.Nat.{_≤_, _<_};
+use image::bytes::byte_at;
 
 const MODULUS: u64 = 4_294_967_291;
 
@@ -23,6 +24,19 @@ fn with_number(digest: u64, number: u64, count: u32) -> u64
         sum = with_byte(sum, rest % 256);
         rest /= 256;
         left -= 1;
+    }
+    sum
+}
+
+// The digest of a row of bytes.
+pub fn of_bytes(bytes: &[u8]) -> u64
+    ensures { λ r. ⌜ r < 4294967291 ⌝ }
+{
+    let mut sum: u64 = 1;
+    let mut k: usize = 0;
+    while k < bytes.len() {
+        sum = with_byte(sum, byte_at(bytes, k) as u64);
+        k += 1;
     }
     sum
 }

@@ -2,10 +2,13 @@
 mod bounds;
 mod digest;
 mod maps;
+mod patches;
 mod print;
+mod runs;
 mod space;
 mod verdicts;
 
+use crate::patches::Lent;
 use image::bytes::four_bytes;
 use libc::STDIN_FILENO;
 
@@ -19,15 +22,25 @@ fn answer_next() -> bool {
         return false;
     }
     let image_bytes = four_bytes(&header, 4) as usize;
+    let patch_bytes = four_bytes(&header, 8) as usize;
     let read_rows = four_bytes(&header, 12) as usize;
     let written_rows = four_bytes(&header, 16) as usize;
     let id_count = four_bytes(&header, 20) as usize;
+    let room_bytes = four_bytes(&header, 24) as usize;
     let call = header[0];
     match call {
         b'T' => verdicts::answer(b'T', image_bytes),
         b'P' => verdicts::answer(b'P', image_bytes),
         b'M' => maps::answer(image_bytes, written_rows),
         b'B' => bounds::answer(image_bytes, read_rows, id_count),
+        b'A' => patches::answer(Lent {
+            image_bytes,
+            patch_bytes,
+            base_rows: read_rows,
+            new_rows: written_rows,
+            room_bytes,
+        }),
+        b'R' => runs::answer(image_bytes, read_rows, four_bytes(&header, 28)),
         _ => false,
     }
 }

@@ -15,10 +15,10 @@ fn answer_call(image: &[u8], rows: &mut [u64]) {
 
 // Reads image and map into the spaces and answers, or says that the stream is broken.
 fn answer_in(image_bytes: usize, row_count: usize, image: &mut [u8], rows: &mut [u64]) -> bool {
-    if !space::fill(image, image_bytes) {
+    if space::fill(image, image_bytes) < image_bytes {
         return false;
     }
-    if !space::fill_rows(rows, row_count) {
+    if space::fill_rows(rows, row_count) < row_count {
         return false;
     }
     answer_call(&image[..image_bytes], &mut rows[..row_count]);

@@ -16,3 +16,8 @@ pub fn number(value: u64) {
 pub fn line_end() {
     io::write_all(STDOUT_FILENO, b"\n");
 }
+
+// What stands before each step of a run.
+pub fn bar() {
+    io::write_all(STDOUT_FILENO, b" |");
+}

@@ -1,6 +1,5 @@
 // Room for what a case lends, and reading it from the stream.
 ghost use mathlib.Core.Path.{_≡_};
-ghost use mathlib.Core.Bool.{true};
 ghost use Prim.Native.Nat.{_≤_};
 ghost use lib.ListN.{length};
 use image::bytes::four_bytes;
@@ -28,6 +27,20 @@ pub fn ids() -> [u16; 96]
     [0; 96]
 }
 
+// Room for the image that a patch call writes, every byte 255.
+pub fn room() -> [u8; 12_800]
+    ensures { λ r. ⌜ 12800 ≡ length r ⌝ }
+{
+    [255; 12_800]
+}
+
+// Room for the map that a step of a run writes, every byte 255.
+pub fn full_rows() -> [u64; 80]
+    ensures { λ r. ⌜ 80 ≡ length r ⌝ }
+{
+    [18_446_744_073_709_551_615; 80]
+}
+
 // Room for the bytes of the longest map.
 fn row_bytes() -> [u8; 640]
     ensures { λ r. ⌜ 640 ≡ length r ⌝ }
@@ -35,14 +48,15 @@ fn row_bytes() -> [u8; 640]
     [0; 640]
 }
 
-// Reads count bytes to the start of the space, or says that the stream or the space ends before.
-pub fn fill(space: &mut [u8], count: usize) -> bool
-    ensures { λ r. ⌜ (r ≡ true → count ≤ length (now (space .exit))) ⌝ }
+// Reads count bytes to the start of the space and answers how many came: fewer where the stream ends before, and none
+// where the space is too short.
+pub fn fill(space: &mut [u8], count: usize) -> usize
+    ensures { λ r. ⌜ r ≤ length (now (space .exit)) ⌝ }
 {
     if space.len() < count {
-        return false;
+        return 0;
     }
-    io::read_full(STDIN_FILENO, &mut space[..count]) == count
+    io::read_full(STDIN_FILENO, &mut space[..count])
 }
 
 // The little-endian number of eight bytes at a place.
@@ -65,22 +79,22 @@ fn set_rows(rows: &mut [u64], bytes: &[u8], count: usize)
     }
 }
 
-// Reads count rows to the start of a map, or says that the stream or the map ends before.
-pub fn fill_rows(rows: &mut [u64], count: usize) -> bool
-    ensures { λ r. ⌜ (r ≡ true → count ≤ length (now (rows .exit))) ⌝ }
+// Reads count rows to the start of a map and answers how many came: none where the stream or the map ends before.
+pub fn fill_rows(rows: &mut [u64], count: usize) -> usize
+    ensures { λ r. ⌜ r ≤ length (now (rows .exit)) ⌝ }
 {
     if 80 < count {
-        return false;
+        return 0;
     }
     if rows.len() < count {
-        return false;
+        return 0;
     }
     let mut bytes = row_bytes();
-    if !fill(&mut bytes, 8 * count) {
-        return false;
+    if fill(&mut bytes, 8 * count) < 8 * count {
+        return 0;
     }
     set_rows(rows, &bytes, count);
-    true
+    count
 }
 
 // Sets the first count ids from their bytes.
@@ -94,20 +108,20 @@ fn set_ids(ids: &mut [u16], bytes: &[u8], count: usize)
     }
 }
 
-// Reads count ids to the start of a room, or says that the stream or the room ends before.
-pub fn fill_ids(ids: &mut [u16], count: usize) -> bool
-    ensures { λ r. ⌜ (r ≡ true → count ≤ length (now (ids .exit))) ⌝ }
+// Reads count ids to the start of a room and answers how many came: none where the stream or the room ends before.
+pub fn fill_ids(ids: &mut [u16], count: usize) -> usize
+    ensures { λ r. ⌜ r ≤ length (now (ids .exit)) ⌝ }
 {
     if 96 < count {
-        return false;
+        return 0;
     }
     if ids.len() < count {
-        return false;
+        return 0;
     }
     let mut bytes = row_bytes();
-    if !fill(&mut bytes, 2 * count) {
-        return false;
+    if fill(&mut bytes, 2 * count) < 2 * count {
+        return 0;
     }
     set_ids(ids, &bytes, count);
-    true
+    count
 }

@@ -13,7 +13,7 @@ fn verdict_of(call: u8, image: &[u8]) -> Verdict {
 
 // Reads the image into the space and prints its verdict, or says that the stream is broken.
 fn answer_in(call: u8, image_bytes: usize, space: &mut [u8]) -> bool {
-    if !space::fill(space, image_bytes) {
+    if space::fill(space, image_bytes) < image_bytes {
         return false;
     }
     let verdict = verdict_of(call, &space[..image_bytes]);

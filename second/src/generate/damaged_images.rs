@@ -11,7 +11,7 @@ use crate::generate::tables::{
     any_table, fullest_table, table_of_every_kind, table_of_shape, Shape,
 };
 use crate::record_faults::MOST_PERIOD;
-use crate::records::{Record, JITTER_AT, PUT_IN};
+use crate::records::{patch_records, Record, JITTER_AT};
 
 /// A table image that is most likely refused.
 pub fn damaged_table(random: &mut Random) -> Vec<u8> {
@@ -79,14 +79,6 @@ pub fn sound_records(random: &mut Random, form: Form) -> Vec<Record> {
         Form::Table => any_table(random).records(),
         Form::Patch => patch_records(&any_table(random).records(), &any_table(random).records()),
     }
-}
-
-/// The records of the patch that takes out and puts in these records, each part in table order.
-pub fn patch_records(taken_out: &[Record], put_in: &[Record]) -> Vec<Record> {
-    let put_in = put_in.iter().map(|record| record.with_way(PUT_IN));
-    let mut records: Vec<Record> = taken_out.iter().copied().chain(put_in).collect();
-    records.sort_by_key(Record::order);
-    records
 }
 
 fn flip_a_byte(random: &mut Random, image: &mut [u8]) {

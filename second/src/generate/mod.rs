@@ -13,6 +13,7 @@ mod patches;
 pub mod random;
 mod record_damage;
 mod rooms;
+mod run_cases;
 pub mod tables;
 mod task_values;
 mod verdict_cases;
@@ -46,6 +47,7 @@ impl Generator {
             Call::Map => map_cases::draw(&mut self.random),
             Call::Bound => bound_cases::draw(&mut self.random),
             Call::Patch => self.run.next_case(&mut self.random),
+            Call::Run => run_cases::draw(&mut self.random),
         }
     }
 }

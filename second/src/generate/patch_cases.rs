@@ -10,6 +10,7 @@ use crate::generate::tables::any_table;
 use crate::patch_call::patch_call;
 use crate::preempt::{true_map, MAP_ROWS};
 use crate::records::Record;
+use crate::stream::step::Step;
 use crate::stream::{Call, Case};
 use crate::table::Table;
 
@@ -32,6 +33,11 @@ impl PatchRun {
             2 => true_map_and_more(random, &table),
             _ => rows(random, MAP_ROWS),
         };
+        PatchRun::from(&table, map)
+    }
+
+    /// A run that starts from this table and this map.
+    pub fn from(table: &Table, map: Vec<u64>) -> PatchRun {
         PatchRun {
             base: image_of(Form::Table, &table.records()),
             map,
@@ -46,12 +52,32 @@ impl PatchRun {
         }
         self.left -= 1;
         let case = self.draw(random);
-        let mut tried = case.clone();
-        if let Some(length) = outcome_length(&mut tried) {
-            self.base = tried.room[..length].to_vec();
-            self.map = tried.map_written[..MAP_ROWS].to_vec();
-        }
+        self.carry(case.clone());
         case
+    }
+
+    /// The next step of a run whose base and map are what stands; an accepted one leaves its outcome.
+    pub fn next_step(&mut self, random: &mut Random) -> Step {
+        let drawn = self.draw(random);
+        let step = Step {
+            map_rows: drawn.map_written.len(),
+            room_bytes: drawn.room.len(),
+            patch: drawn.patch.clone(),
+        };
+        self.carry(Case {
+            image: self.base.clone(),
+            map_read: self.map.clone(),
+            ..drawn
+        });
+        step
+    }
+
+    /// Makes the call of the case, and keeps outcome and map where it is accepted.
+    fn carry(&mut self, mut case: Case) {
+        if let Some(length) = outcome_length(&mut case) {
+            self.base = case.room[..length].to_vec();
+            self.map = case.map_written[..MAP_ROWS].to_vec();
+        }
     }
 
     fn draw(&self, random: &mut Random) -> Case {
@@ -64,10 +90,10 @@ impl PatchRun {
         };
         let case = self.roomy(random, &patch);
         let case = match sort {
-            5 | 6 => damaged(random, case),
+            5..=7 => damaged(random, case),
             _ => case,
         };
-        match sort == 7 || random.one_in(20) {
+        match sort == 8 || random.one_in(20) {
             true => cramped(random, case),
             false => case,
         }

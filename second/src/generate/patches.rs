@@ -1,13 +1,12 @@
 //! Patches that fit a base, and patches that fail on it.
 
-use crate::generate::damaged_images::patch_records;
 use crate::generate::edits::edited;
 use crate::generate::misfits::{misfit_a_record, one_too_many, unused_record};
 use crate::generate::random::Random;
 use crate::generate::tables::any_table;
 use crate::records::{
-    Record, JITTER_AT, PAIR, PAIR_SORT_AT, PERIOD_AT, RESPONSE_AT, STACK_AT, TAKEN_OUT, TASK,
-    TRANSACTION,
+    patch_records, Record, JITTER_AT, PAIR, PAIR_SORT_AT, PERIOD_AT, RESPONSE_AT, STACK_AT,
+    TAKEN_OUT, TASK, TRANSACTION,
 };
 use crate::table::Table;
 
@@ -17,6 +16,7 @@ pub fn fitting_patch(random: &mut Random, base: &Table) -> Vec<Record> {
         0 => base.clone(),
         1 => Table::default(),
         2 => any_table(random),
+        3..=12 if base.tasks.is_empty() => any_table(random),
         _ => (0..random.count(1, 4)).fold(base.clone(), |table, _| edited(random, &table)),
     };
     let put_back = match random.one_in(3) {

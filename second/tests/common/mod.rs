@@ -6,7 +6,7 @@ use second::blocks::{image_of, Form};
 use second::bound_call::{bound_call, Bounds};
 use second::patch_call::{patch_call, Patched};
 use second::preempt::true_map;
-use second::records::{Pair, PairSort, Record, Task, Transaction, PUT_IN};
+use second::records::{Pair, PairSort, Task, Transaction};
 use second::table::Table;
 use second::verdict::Refusal;
 
@@ -60,13 +60,6 @@ pub fn precedence(first: u16, second: u16) -> Pair {
 /// The image of a table.
 pub fn table_image(table: &Table) -> Vec<u8> {
     image_of(Form::Table, &table.records())
-}
-
-/// The image of the patch that takes out and puts in these records.
-pub fn patch_image(taken_out: &[Record], put_in: &[Record]) -> Vec<u8> {
-    let put_in = put_in.iter().map(|record| record.with_way(PUT_IN));
-    let records: Vec<Record> = taken_out.iter().copied().chain(put_in).collect();
-    image_of(Form::Patch, &records)
 }
 
 /// The bounds of a table with this map, and the chain's ids.

@@ -1,7 +1,6 @@
 -- What was read fills the parts that are lent.
-use mathlib.Core.Path.{sym}
-use borrow.Author.Tests.{not-false}
-use lib.Seq.{length-take-le}
+use lib.ListN.{length-take}
+use native.Mathlib.Omega.{arith}
 use borrow.Author.Needs.{needs}
 use Rattle.answers.proofs.maps.answer_in.Statement.{statement}
 use Rattle.answers.proofs.maps.answer_in.Tie as tie
@@ -28,16 +27,16 @@ returns-2 : tie.Need-returns-2
 returns-2 c = search needs
 
 slice-reshare-prefix-answer-call : tie.Need-slice-reshare-prefix-answer-call
-slice-reshare-prefix-answer-call c = c .before .before .before .before .before .before .before .before .fill .ensures (not-false (c .before .before .before .before .before .before .before .before .fill .result) (c .before .before .before .before .before .if1 .left))
+slice-reshare-prefix-answer-call c = search needs
 
 slice-aggregate-answer-call : tie.Need-slice-aggregate-answer-call
-slice-aggregate-answer-call c = sym (length-take-le (c .before .before .before .before .before .before .before .before .before .before .before .before .before .args .image-bytes) (c .before .before .before .before .before .before .before .before .before .fill .last .0) (c .before .before .before .before .before .before .before .before .before .fill .ensures (not-false (c .before .before .before .before .before .before .before .before .before .fill .result) (c .before .before .before .before .before .before .if1 .left))))
+slice-aggregate-answer-call c = simp length-take (omega arith)
 
 slice-relend-prefix-answer-call : tie.Need-slice-relend-prefix-answer-call
-slice-relend-prefix-answer-call c = c .before .before .before .before .fill-rows .ensures (not-false (c .before .before .before .before .fill-rows .result) (c .before .if2 .left))
+slice-relend-prefix-answer-call c = search needs
 
 slice-aggregate-answer-call-2 : tie.Need-slice-aggregate-answer-call-2
-slice-aggregate-answer-call-2 c = sym (length-take-le (c .before .before .before .before .before .before .before .before .before .before .before .before .before .before .args .row-count) (c .before .before .before .before .before .fill-rows .last .0) (c .before .before .before .before .before .fill-rows .ensures (not-false (c .before .before .before .before .before .fill-rows .result) (c .before .before .if2 .left))))
+slice-aggregate-answer-call-2 c = simp length-take (omega arith)
 
 answer-call-requires : tie.Need-answer-call-requires
 answer-call-requires c κs = search needs

@@ -1,20 +1,18 @@
--- What was not read leaves nothing to promise; the part handed over is as long as was asked.
-use mathlib.Core.Path.{refl, sym}
-use mathlib.Core.Bool.{false}
-use lib.Seq.{length-take-le}
-use Rattle.rules.proofs.Numbers.{never}
+-- The part that is read into is as long as was asked, and no more comes than it holds.
+use lib.ListN.{length-append, length-take}
+use native.Mathlib.Omega.{arith}
 use borrow.Author.Needs.{needs}
 use Rattle.answers.proofs.space.fill.Statement.{statement}
 use Rattle.answers.proofs.space.fill.Tie as tie
 
 returns : tie.Need-returns
-returns c = λ e. never false e refl
+returns c = search needs
 
 slice-relend-prefix-read-full : tie.Need-slice-relend-prefix-read-full
 slice-relend-prefix-read-full c = search needs
 
 slice-aggregate-read-full : tie.Need-slice-aggregate-read-full
-slice-aggregate-read-full c = sym (length-take-le (c .before .before .before .args .count) (c .before .before .before .args .space .now) (c .before .if1 .left))
+slice-aggregate-read-full c = simp length-take (omega arith)
 
 read-full-requires : tie.Need-read-full-requires
 read-full-requires c κs = search needs
@@ -23,7 +21,7 @@ same-length : tie.Need-same-length
 same-length c = search needs
 
 returns-2 : tie.Need-returns-2
-returns-2 c = search needs
+returns-2 c = simp length-append (omega arith)
 
 pub fill-spec : {M : Type 1} → statement M
 fill-spec =

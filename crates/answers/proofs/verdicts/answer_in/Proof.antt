@@ -1,7 +1,6 @@
 -- What was read fills the part that is judged.
-use mathlib.Core.Path.{sym}
-use borrow.Author.Tests.{not-false}
-use lib.Seq.{length-take-le}
+use lib.ListN.{length-take}
+use native.Mathlib.Omega.{arith}
 use borrow.Author.Needs.{needs}
 use Rattle.answers.proofs.verdicts.answer_in.Statement.{statement}
 use Rattle.answers.proofs.verdicts.answer_in.Tie as tie
@@ -16,10 +15,10 @@ returns : tie.Need-returns
 returns c = search needs
 
 slice-reshare-prefix-verdict-of : tie.Need-slice-reshare-prefix-verdict-of
-slice-reshare-prefix-verdict-of c = c .before .before .before .fill .ensures (not-false (c .before .before .before .fill .result) (c .if1 .left))
+slice-reshare-prefix-verdict-of c = search needs
 
 slice-aggregate-verdict-of : tie.Need-slice-aggregate-verdict-of
-slice-aggregate-verdict-of c = sym (length-take-le (c .before .before .before .before .before .before .before .args .image-bytes) (c .before .before .before .before .fill .last .0) (c .before .before .before .before .fill .ensures (not-false (c .before .before .before .before .fill .result) (c .before .if1 .left))))
+slice-aggregate-verdict-of c = simp length-take (omega arith)
 
 verdict-of-requires : tie.Need-verdict-of-requires
 verdict-of-requires c κs = search needs

@@ -1,0 +1,23 @@
+//! Cases of a run of patches, each on what the last accepted one left.
+
+use crate::blocks::{image_of, Form};
+use crate::generate::patch_cases::PatchRun;
+use crate::generate::random::Random;
+use crate::generate::tables::any_table;
+use crate::preempt::true_map;
+use crate::stream::{Call, Case};
+
+/// Patches in a run.
+const RUN_LENGTH: usize = 20;
+
+/// A run on a table with its true map, its patches more often accepted than not.
+pub fn draw(random: &mut Random) -> Case {
+    let table = any_table(random);
+    let map = true_map(&table).to_vec();
+    let mut run = PatchRun::from(&table, map.clone());
+    Case {
+        map_read: map,
+        steps: (0..RUN_LENGTH).map(|_| run.next_step(random)).collect(),
+        ..Case::lending(Call::Run, image_of(Form::Table, &table.records()))
+    }
+}

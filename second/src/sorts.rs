@@ -1,0 +1,247 @@
+//! Which sorts of patch call a stream holds, so that a comparison can be seen to meet each of them.
+
+use std::collections::BTreeSet;
+
+use crate::afresh::touched_ids;
+use crate::blocks::{records_in, Form, BLOCK_BYTES};
+use crate::patch_call::patch_call;
+use crate::preempt::{is_set, true_map, MAP_ROWS};
+use crate::records::{Pair, Record, TRANSACTION};
+use crate::stream::{Call, Case};
+use crate::table::Table;
+
+/// A sort of patch call. Where a sort says that a map or the room is too short, nothing else is.
+#[derive(Clone, Copy)]
+enum Sort {
+    UnchangedPutBack,
+    PeriodChanged,
+    CellChangedByPeriod,
+    PairTakenOut,
+    PairPutIn,
+    TaskMoved,
+    SetCellMoved,
+    WrongCellCarried,
+    RoomLeaving(usize),
+    RoomLacking(usize),
+    BaseRows(usize),
+    NewRows(usize),
+}
+
+/// Every sort that a comparison is to meet.
+const SORTS: [Sort; 16] = [
+    Sort::UnchangedPutBack,
+    Sort::PeriodChanged,
+    Sort::CellChangedByPeriod,
+    Sort::PairTakenOut,
+    Sort::PairPutIn,
+    Sort::TaskMoved,
+    Sort::SetCellMoved,
+    Sort::WrongCellCarried,
+    Sort::RoomLeaving(0),
+    Sort::RoomLacking(1),
+    Sort::BaseRows(63),
+    Sort::BaseRows(64),
+    Sort::BaseRows(70),
+    Sort::NewRows(63),
+    Sort::NewRows(64),
+    Sort::NewRows(70),
+];
+
+impl Sort {
+    /// What the sort is called.
+    fn name(self) -> String {
+        match self {
+            Sort::UnchangedPutBack => "an unchanged record put back".into(),
+            Sort::PeriodChanged => "a period changed under a task".into(),
+            Sort::CellChangedByPeriod => "a cell changed by a period alone".into(),
+            Sort::PairTakenOut => "a pair taken out".into(),
+            Sort::PairPutIn => "a pair put in".into(),
+            Sort::TaskMoved => "a task moved by another's coming".into(),
+            Sort::SetCellMoved => "a set cell moved in row and column".into(),
+            Sort::WrongCellCarried => "a wrong cell carried".into(),
+            Sort::RoomLeaving(bytes) => format!("a room that leaves {bytes} bytes"),
+            Sort::RoomLacking(bytes) => format!("a room that lacks {bytes} byte"),
+            Sort::BaseRows(rows) => format!("a base map of {rows} rows"),
+            Sort::NewRows(rows) => format!("a new map of {rows} rows"),
+        }
+    }
+
+    /// Whether the call is of this sort.
+    fn holds(self, call: &Tried) -> bool {
+        let fits = call.short() == [false; 3];
+        let (base_rows, new_rows) = (call.case.map_read.len(), call.case.map_written.len());
+        let room = call.case.room.len();
+        match self {
+            Sort::UnchangedPutBack => fits && call.puts_back_unchanged(),
+            Sort::PeriodChanged => fits && call.changes_a_period(),
+            Sort::CellChangedByPeriod => fits && call.changes_a_cell_by_period(),
+            Sort::PairTakenOut => fits && has_further_pair(&call.base, &call.outcome),
+            Sort::PairPutIn => fits && has_further_pair(&call.outcome, &call.base),
+            Sort::TaskMoved => fits && call.moves_a_task(),
+            Sort::SetCellMoved => fits && call.moves_a_set_cell(),
+            Sort::WrongCellCarried => fits && call.carries_a_wrong_cell(),
+            Sort::RoomLeaving(bytes) => fits && room == call.length + bytes,
+            Sort::RoomLacking(bytes) => {
+                call.short() == [false, false, true] && room + bytes == call.length
+            }
+            Sort::BaseRows(rows) => {
+                call.short() == [rows < MAP_ROWS, false, false] && base_rows == rows
+            }
+            Sort::NewRows(rows) => {
+                call.short() == [false, rows < MAP_ROWS, false] && new_rows == rows
+            }
+        }
+    }
+}
+
+/// How many patch calls there were, and how many of each sort.
+#[derive(Default)]
+pub struct Sorts {
+    calls: usize,
+    counts: [usize; SORTS.len()],
+}
+
+impl Sorts {
+    /// Counts the case if it is a patch call.
+    pub fn count(&mut self, case: &Case) {
+        if case.call != Call::Patch {
+            return;
+        }
+        self.calls += 1;
+        if let Some(call) = Tried::of(case) {
+            for (count, sort) in self.counts.iter_mut().zip(SORTS) {
+                *count += usize::from(sort.holds(&call));
+            }
+        }
+    }
+
+    /// A line for each sort with its number of calls, or none where there was no patch call.
+    pub fn lines(&self) -> String {
+        let counted = self.counts.iter().zip(SORTS);
+        match self.calls {
+            0 => String::new(),
+            _ => counted
+                .map(|(count, sort)| format!("{count} {}\n", sort.name()))
+                .collect(),
+        }
+    }
+}
+
+/// Where a task stands in the base and in the outcome.
+type Places = (usize, usize);
+
+/// A patch call that nothing refuses but a map or room too short, and what it is about.
+struct Tried {
+    case: Case,
+    base: Table,
+    outcome: Table,
+    patch: Vec<Record>,
+    /// Bytes of the outcome's image.
+    length: usize,
+    /// The tasks that are not touched.
+    untouched: Vec<Places>,
+    /// The tasks that are not touched, or by their transaction's record alone.
+    steady: Vec<Places>,
+}
+
+impl Tried {
+    /// The call as it goes with maps and a room that are long enough, if it is accepted then.
+    fn of(case: &Case) -> Option<Tried> {
+        let mut room = vec![0; Form::Table.most_blocks() * BLOCK_BYTES];
+        let (map, mut new_map) = ([0; MAP_ROWS], [0; MAP_ROWS]);
+        let tried = patch_call(&case.image, &case.patch, &map, &mut room, &mut new_map);
+        let length = tried.ok()?.length;
+        let records = records_in(&room[..length]);
+        let base = Table::read(&records_in(&case.image));
+        let patch = records_in(&case.patch);
+        let no_transaction = |record: &&Record| record.kind() != TRANSACTION;
+        let others: Vec<Record> = patch.iter().filter(no_transaction).copied().collect();
+        Some(Tried {
+            case: case.clone(),
+            untouched: places_without(&base, &records, &touched_ids(&records, &patch)),
+            steady: places_without(&base, &records, &touched_ids(&records, &others)),
+            base,
+            outcome: Table::read(&records),
+            patch,
+            length,
+        })
+    }
+
+    /// Whether the base map, the new map and the room are too short.
+    fn short(&self) -> [bool; 3] {
+        [
+            self.case.map_read.len() < MAP_ROWS,
+            self.case.map_written.len() < MAP_ROWS,
+            self.case.room.len() < self.length,
+        ]
+    }
+
+    /// Whether a record is taken out and put in again as it was.
+    fn puts_back_unchanged(&self) -> bool {
+        let as_listed = self.patch.iter().map(|record| record.with_way(0));
+        as_listed.collect::<BTreeSet<Record>>().len() < self.patch.len()
+    }
+
+    /// Whether the period changes of a task that nothing else touches.
+    fn changes_a_period(&self) -> bool {
+        self.steady.iter().any(|(_, place)| {
+            let number = self.outcome.tasks[*place].transaction;
+            self.base.period_of(number) != self.outcome.period_of(number)
+        })
+    }
+
+    /// Whether a decision between two such tasks changes.
+    fn changes_a_cell_by_period(&self) -> bool {
+        let (old, new) = (true_map(&self.base), true_map(&self.outcome));
+        some_cell(&self.steady, |row, cell| {
+            is_set(&old, row.0, cell.0) != is_set(&new, row.1, cell.1)
+        })
+    }
+
+    /// Whether a task that is not touched comes to a later place.
+    fn moves_a_task(&self) -> bool {
+        self.untouched.iter().any(|(old, new)| old < new)
+    }
+
+    /// Whether a set cell is carried to another row and another column.
+    fn moves_a_set_cell(&self) -> bool {
+        some_cell(&self.untouched, |row, cell| {
+            row.0 != row.1 && cell.0 != cell.1 && is_set(&self.case.map_read, row.0, cell.0)
+        })
+    }
+
+    /// Whether a cell is carried that is not as the base decides it.
+    fn carries_a_wrong_cell(&self) -> bool {
+        let decided = true_map(&self.base);
+        some_cell(&self.untouched, |row, cell| {
+            is_set(&decided, row.0, cell.0) != is_set(&self.case.map_read, row.0, cell.0)
+        })
+    }
+}
+
+/// The places of the outcome's tasks that are none of these, each of which the base has too.
+fn places_without(base: &Table, outcome: &[Record], ids: &BTreeSet<u16>) -> Vec<Places> {
+    let tasks = Table::read(outcome).tasks;
+    let places = tasks.iter().enumerate().filter_map(|(new, task)| {
+        let old = base.place_of(task.id).filter(|_| !ids.contains(&task.id))?;
+        Some((old, new))
+    });
+    places.collect()
+}
+
+/// Whether the cell of some two of these tasks is as asked.
+fn some_cell(tasks: &[Places], asked: impl Fn(Places, Places) -> bool) -> bool {
+    tasks
+        .iter()
+        .any(|row| tasks.iter().any(|cell| asked(*row, *cell)))
+}
+
+/// Whether a table has a pair of tasks that the other has not.
+fn has_further_pair(table: &Table, other: &Table) -> bool {
+    let names = |pair: &Pair| (pair.first, pair.second);
+    let listed: BTreeSet<(u16, u16)> = other.pairs.iter().map(names).collect();
+    table
+        .pairs
+        .iter()
+        .any(|pair| !listed.contains(&names(pair)))
+}

@@ -1,0 +1,127 @@
+//! The sorts of patch call that a comparison is to meet.
+
+mod common;
+
+use common::*;
+use second::blocks::patch_image;
+use second::figure2::figure2;
+use second::generate::Generator;
+use second::numbered_cases::patch_of;
+use second::preempt::true_map;
+use second::records::Transaction;
+use second::sorts::Sorts;
+use second::stream::{Call, Case};
+use second::table::Table;
+
+/// The sorts that one call is of.
+fn sorts_of(case: &Case) -> Vec<String> {
+    let mut sorts = Sorts::default();
+    sorts.count(case);
+    let lines = sorts.lines();
+    let met = lines.lines().filter_map(|line| line.strip_prefix("1 "));
+    met.map(String::from).collect()
+}
+
+/// A patch call on a table with its true map, 70 rows for the new map and more room than any outcome needs.
+fn call(base: &Table, patch: Vec<u8>) -> Case {
+    Case {
+        patch,
+        map_read: true_map(base).to_vec(),
+        map_written: vec![0; 70],
+        room: vec![0; 12_000],
+        ..Case::lending(Call::Patch, table_image(base))
+    }
+}
+
+/// What every call above is of.
+const MAPS: [&str; 2] = ["a base map of 64 rows", "a new map of 70 rows"];
+
+#[test]
+fn every_sort_is_met_by_the_generator() {
+    let mut generator = Generator::from_seed(51);
+    let mut sorts = Sorts::default();
+    assert_eq!(sorts.lines(), "");
+    (0..3000).for_each(|_| sorts.count(&generator.next_case(Call::Patch)));
+    let lines = sorts.lines();
+    assert_eq!(lines.lines().count(), 16);
+    for line in lines.lines() {
+        let count: usize = line.split(' ').next().unwrap().parse().unwrap();
+        assert!(count >= 5, "{line}");
+    }
+}
+
+#[test]
+fn a_task_put_in_before_others_moves_them_and_their_cells() {
+    let case = call(&figure2(), patch_of(12).unwrap());
+    let moved = [
+        "a task moved by another's coming",
+        "a set cell moved in row and column",
+    ];
+    assert_eq!(sorts_of(&case), [moved, MAPS].concat());
+}
+
+#[test]
+fn pairs_and_records_put_back_are_told() {
+    let mut base = figure2();
+    let pair = one_way(12, 23);
+    let put_in = call(&base, patch_of(11).unwrap());
+    assert_eq!(sorts_of(&put_in), [&["a pair put in"], &MAPS[..]].concat());
+    base.pairs.push(pair);
+    let taken_out = call(&base, patch_image(&[pair.record()], &[]));
+    assert_eq!(
+        sorts_of(&taken_out),
+        [&["a pair taken out"], &MAPS[..]].concat()
+    );
+    let put_back = call(&base, patch_image(&[pair.record()], &[pair.record()]));
+    assert_eq!(
+        sorts_of(&put_back),
+        [&["an unchanged record put back"], &MAPS[..]].concat()
+    );
+}
+
+#[test]
+fn a_period_changes_cells_or_not() {
+    let base = table(&[task(1, 1, 0, 5001), task(2, 2, 0, 100)], &[]);
+    let with_period = |period| {
+        let changed = Transaction { number: 1, period };
+        let patch = patch_image(&[base.transactions[0].record()], &[changed.record()]);
+        sorts_of(&call(&base, patch))
+    };
+    let changed = "a period changed under a task";
+    assert_eq!(with_period(9999), [&[changed], &MAPS[..]].concat());
+    let cell = "a cell changed by a period alone";
+    assert_eq!(with_period(5000), [&[changed, cell], &MAPS[..]].concat());
+}
+
+#[test]
+fn what_is_too_short_is_told_where_it_alone_is() {
+    let roomy = call(&figure2(), patch_image(&[], &[]));
+    let with = |rows_read: usize, rows_written: usize, room: usize| {
+        let mut case = roomy.clone();
+        case.map_read.resize(rows_read, 0);
+        case.map_written.resize(rows_written, 0);
+        case.room.resize(room, 0);
+        sorts_of(&case)
+    };
+    assert_eq!(with(63, 64, 512), ["a base map of 63 rows"]);
+    assert_eq!(with(64, 63, 512), ["a new map of 63 rows"]);
+    assert_eq!(with(64, 64, 511), ["a room that lacks 1 byte"]);
+    assert!(with(63, 63, 512).is_empty());
+    let all = [
+        "a room that leaves 0 bytes",
+        "a base map of 70 rows",
+        "a new map of 64 rows",
+    ];
+    assert_eq!(with(70, 64, 512), all);
+}
+
+#[test]
+fn a_cell_that_is_not_as_the_base_decides_is_wrong_where_it_is_carried() {
+    let mut case = call(&figure2(), patch_of(11).unwrap());
+    let pair = "a pair put in";
+    case.map_read[1] ^= 1 << 5;
+    assert_eq!(sorts_of(&case), [&[pair], &MAPS[..]].concat());
+    case.map_read[0] ^= 1 << 3;
+    let wrong = "a wrong cell carried";
+    assert_eq!(sorts_of(&case), [&[pair, wrong], &MAPS[..]].concat());
+}
