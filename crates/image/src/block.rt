@@ -12,18 +12,21 @@ use crate::bytes::two_bytes;
 use crate::bytes::wide;
 use rules::Form;
 
-// The check that the first 510 bytes of a block call for.
+// The check that the first 510 bytes of a block call for. Byte i is in each of the sums from its own on, so that 511 times
+// the last sum less all of them has it i + 1 times: two additions for each byte, and no product.
 pub fn check_of(block: &[u8]) -> u32
     requires { ⌜ 510 ≤ length (now block) ⌝ }
     ensures { λ r. ⌜ (r ≡ checkOf (now (block .entry))) × (r < 65521) ⌝ }
 {
     let mut sum: u32 = 0;
+    let mut sums: u32 = 0;
     let mut i: usize = 0;
     while i < 510 {
-        sum += (i as u32 + 1) * wide(block[i]);
+        sum += wide(block[i]);
+        sums += sum;
         i += 1;
     }
-    sum % 65521
+    (511 * sum - sums) % 65521
 }
 
 // Whether the stored check is not the one that the block's bytes call for.

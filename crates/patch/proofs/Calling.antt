@@ -104,8 +104,10 @@ module _ (base patch rows room newRows : List ℕ) where
   patch-accepted e = record { answered = rw e; written = rw e; carried = rw e }
 
   -- only the checks that need no outcome give the number 9
-  pub offending-number : offending (patchCallVerdict base patch rows room newRows) patch ≡ cond (eqb (bothVerdict base patch .number) 9) (recordAt patch (bothVerdict base patch .place)) []
-  offending-number =
+  pub only-nine {ℓ} : {A : Type ℓ} (at-nine : Verdict → A) (other : A)
+      → cond (eqb (patchCallVerdict base patch rows room newRows .number) 9) (at-nine (patchCallVerdict base patch rows room newRows)) other
+      ≡ cond (eqb (bothVerdict base patch .number) 9) (at-nine (bothVerdict base patch)) other
+  only-nine at-nine other =
       either (accepted (bothVerdict base patch))
       (λ t.
       let zero = eqb-true (bothVerdict base patch .number) 0 t in
@@ -114,6 +116,10 @@ module _ (base patch rows room newRows : List ℕ) where
       (λ b. rw b)
       (λ b. rw b (either (isShort base patch rows room newRows) (λ s. rw s) (λ s. rw s)))))
       (λ t. rw (call-refused t))
+
+  -- so they decide the offending part
+  pub offending-number : offending (patchCallVerdict base patch rows room newRows) patch ≡ cond (eqb (bothVerdict base patch .number) 9) (recordAt patch (bothVerdict base patch .place)) []
+  offending-number = only-nine (λ v. recordAt patch (v .place)) []
 
 -- the outcome's image in a space, judged as a table
 module _ (base patch : List ℕ) (both : accepted (bothVerdict base patch) ≡ true) (n : ℕ) (space later : List ℕ) (made : ImageWritten (outcome (records base) (records patch)) n space later) where

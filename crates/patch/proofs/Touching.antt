@@ -1,44 +1,29 @@
 -- Sets of places: a set marks the places that pass a test, bit by bit.
-use Prim.Native.Nat.{ℕ, suc, _+_, _^_, _<_}
+use Prim.Native.Nat.{ℕ, _+_, _^_, _<_}
 use mathlib.Core.List.{List}
 use mathlib.Core.Bool.{Bool, false, _||_}
 use mathlib.Core.Path.{_≡_, sym, _∙_}
-use native.Mathlib.Numerals.{add-one}
 use native.Mathlib.Omega.{arith}
-use borrow.Author.Tests.{eqb-true, eq-eqb, ne-eqb, lt-ltb, le-ltb, ltb-true, ltb-false}
+use borrow.Author.Tests.{eqb-true, eq-eqb, ne-eqb, ltb-true, ltb-false}
 use lib.Bits.{bitOr}
 use lib.Dec.{ltb, eqb}
 use lib.ListN.{getD}
-use lib.Pow.{pow-pos}
-use Rattle.rules.specs.Numbers.{lowest, some}
+use Rattle.rules.specs.Numbers.{some}
 use Rattle.rules.specs.Records.{kindOf, numberOf, secondOf}
-use Rattle.rules.proofs.Numbers.{either, never, lowest-passes, lowest-below, lowest-zero, some-false}
-use Rattle.rules.proofs.Bits.{bit-lacks, bit-of-power, bit-or}
+use Rattle.rules.proofs.Numbers.{either, never, lowest-passes, lowest-below, lowest-zero, some-false, some-more}
+use Rattle.rules.proofs.Bits.{bit-none, bit-of-power, bit-or}
 use Rattle.rules.proofs.Tests.{same-tests}
 use Rattle.table.specs.Numbers.{Rising, placeAmong}
 use Rattle.patch.specs.Touched.{Marks, concernsTask}
 
 -- no place is in the empty set
 pub marks-none : (count : ℕ) (test : ℕ → Bool) → ((i : ℕ) → i < count → test i ≡ false) → Marks count test 0
-marks-none count test none i l = bit-lacks 0 i (pow-pos i) ∙ sym (none i l)
+marks-none count test none i l = bit-none i ∙ sym (none i l)
 
 -- two sets together
 pub marks-either : (count : ℕ) (test other : ℕ → Bool) (a b : ℕ) → Marks count test a → Marks count other b
     → Marks count (λ i. test i || other i) (bitOr a b)
 marks-either count test other a b p q i l = bit-or a b i ∙ rw (p i l, q i l)
-
--- one more number that is asked
-pub some-more : (test : ℕ → Bool) (n : ℕ) → some test (n + 1) ≡ (some test n || test n)
-unfolding lowest
-some-more test n =
-    rw add-one
-    (either (ltb (lowest test n) n)
-    (λ t. rw (t, lt-ltb (lowest test n) (suc n) (omega (arith, ltb-true (lowest test n) n t))))
-    (λ t.
-    rw t
-    (either (test n)
-    (λ u. rw (u, lt-ltb n (suc n) (omega arith)))
-    (λ u. rw (u, le-ltb (suc n) (suc n) (omega arith))))))
 
 -- places that pass one of the tests below k
 module _ (count : ℕ) (test : ℕ → ℕ → Bool) where

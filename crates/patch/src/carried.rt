@@ -9,15 +9,17 @@ ghost use Rattle.rules.specs.Preempt.{cell, rowFrom, mapFrom};
 ghost use Rattle.rules.specs.Patches.{outcome, touchedCount, patchedMap};
 ghost use Rattle.rules.specs.Refusals.{accepted, tableVerdict};
 ghost use Rattle.preempt.specs.Bits.{column};
-ghost use Rattle.patch.specs.Carried.{carriedBy, MapCarried};
+ghost use Rattle.patch.specs.Carried.{cellCarried, carriedBy, MapCarried};
 use crate::touched::count_places;
 use crate::touched::touched_tasks;
 use preempt::barred::read_barred;
 use preempt::bits::is_set;
 use preempt::bits::power;
-use preempt::map::decide;
+use preempt::decide::may_preempt;
+use preempt::map::task_at;
 use preempt::tasks::Tasks;
 use preempt::tasks::read_tasks;
+use rules::Task;
 use table::count::count_kind;
 use table::place::numbers_from;
 use table::place::place_of;
@@ -26,6 +28,14 @@ use table::place::place_of;
 pub struct Carried {
     pub map: [u64; 64],
     pub touched: u32,
+}
+
+// What the decisions of one row share: the period of its task's transaction, the bits of the tasks that a pair bars, and
+// the task itself.
+pub struct Decision {
+    pub period: u32,
+    pub bars: u64,
+    pub low: Task,
 }
 
 // Where the base has the tasks with these ids; the number of its tasks where it has none.
@@ -61,10 +71,10 @@ fn is_cell_set(rows: &[u64], row: u32, place: u32) -> bool
     is_set(rows[i], j)
 }
 
-// Whether cell j of row i of the new map is set.
+// Whether cell j of row i of the new map is set: with a touched task it is decided, and any other is the lent map's.
 fn is_carried_set(
-    tasks: Tasks,
-    barred: [u64; 64],
+    decision: Decision,
+    high: Task,
     touched: u64,
     old: &[u32],
     rows: &[u64],
@@ -72,13 +82,23 @@ fn is_carried_set(
     j: usize,
 ) -> bool
     requires { ⌜ (i < 64) × ((j < 64) × (64 ≤ length (now old))) ⌝ }
-    ensures { λ r. ⌜ r ≡ carriedBy tasks barred touched (now (old .entry)) (now (rows .entry)) i j ⌝ }
+    ensures { λ r. ⌜ r ≡ cellCarried decision high touched (now (old .entry)) (now (rows .entry)) i j ⌝ }
 {
     if is_set(touched, i) {
-        return decide(tasks, barred, i, j);
+        return may_preempt(
+            decision.period,
+            is_set(decision.bars, j),
+            decision.low,
+            high,
+        );
     }
     if is_set(touched, j) {
-        return decide(tasks, barred, i, j);
+        return may_preempt(
+            decision.period,
+            is_set(decision.bars, j),
+            decision.low,
+            high,
+        );
     }
     is_cell_set(rows, old[i], old[j])
 }
@@ -95,10 +115,24 @@ fn carried_row(
     requires { ⌜ (i < 64) × ((tasks .count ≤ 64) × (64 ≤ length (now old))) ⌝ }
     ensures { λ r. ⌜ r ≡ rowFrom (tasks .count) (carriedBy tasks barred touched (now (old .entry)) (now (rows .entry)) i) ⌝ }
 {
+    let decision = Decision {
+        period: tasks.periods[i],
+        bars: barred[i],
+        low: task_at(tasks, i),
+    };
     let mut row: u64 = 0;
     let mut j: usize = 0;
     while j < tasks.count {
-        if is_carried_set(tasks, barred, touched, old, rows, i, j) {
+        let high = Task {
+            id: tasks.ids[j],
+            transaction: tasks.transactions[j],
+            priority: tasks.priorities[j],
+            offset: tasks.offsets[j],
+            jitter: tasks.jitters[j],
+            response: tasks.responses[j],
+            size: tasks.sizes[j],
+        };
+        if is_carried_set(decision, high, touched, old, rows, i, j) {
             row += power(j);
         }
         j += 1;

@@ -1,5 +1,5 @@
 // Patches: what is taken out and put in, the outcome as a table, the tasks that are touched, and the map that is carried over.
-mod absent;
+pub mod absent;
 pub mod call;
 mod carried;
 mod merge;

@@ -5,15 +5,11 @@ use mathlib.Core.Bool.{Bool, cond}
 use lib.Bits.{bitOr}
 use lib.Dec.{ltb, eqb}
 use lib.ListN.{getD, set}
-use Rattle.rules.specs.Numbers.{upTo, sumTo}
+use Rattle.rules.specs.Numbers.{upTo}
 
 -- bit j, counted from the lowest
 abbrev pub bitAt : ℕ → ℕ → Bool
 bitAt n j = eqb (n / 2 ^ j % 2) 1
-
--- the number whose bits below n are set where the test passes
-abbrev pub bitsTo : (ℕ → Bool) → ℕ → ℕ
-bitsTo test n = sumTo (λ j. cond (test j) (2 ^ j) 0) n
 
 -- 64 numbers: f 0, .., f (n - 1), and 0 beyond
 unfoldable pub column : ℕ → (ℕ → ℕ) → List ℕ

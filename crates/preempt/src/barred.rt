@@ -17,29 +17,26 @@ use image::records::record_at;
 use table::count::count_kind;
 use table::place::place_of;
 
-// The rows with cell j of row i set besides.
-fn mark(rows: [u64; 64], i: usize, j: usize) -> [u64; 64]
-    requires { ⌜ (i < 64) × (j < 64) ⌝ }
-    ensures { λ r. ⌜ r ≡ marked rows i j ⌝ }
+// Sets cell j of row i besides.
+fn mark(rows: &mut [u64], i: usize, j: usize)
+    requires { ⌜ (i < length (now rows)) × (j < 64) ⌝ }
+    ensures { λ _. ⌜ now (rows .exit) ≡ marked (now (rows .entry)) i j ⌝ }
 {
-    let mut more = rows;
-    more[i] = with_bit(rows[i], j);
-    more
+    rows[i] = with_bit(rows[i], j);
 }
 
-// The rows with what a pair record forbids: one way, or for a precedence both.
-fn forbid(rows: [u64; 64], ids: &[u32], known: usize, fields: &[u8]) -> [u64; 64]
-    requires { ⌜ (known ≤ length (now ids)) × Rising (now ids) known ⌝ }
+// Sets what a pair record forbids besides: one way, or for a precedence both.
+fn forbid(rows: &mut [u64], ids: &[u32], known: usize, fields: &[u8])
+    requires { ⌜ (64 ≤ length (now rows)) × ((known ≤ length (now ids)) × Rising (now ids) known) ⌝ }
     requires { ⌜ (placeAmong (now ids) known (numberOf (now fields)) < 64) × (placeAmong (now ids) known (secondOf (now fields)) < 64) ⌝ }
-    ensures { λ r. ⌜ r ≡ withPair rows (sortOf (now (fields .entry))) (placeAmong (now (ids .entry)) known (numberOf (now (fields .entry)))) (placeAmong (now (ids .entry)) known (secondOf (now (fields .entry)))) ⌝ }
+    ensures { λ _. ⌜ now (rows .exit) ≡ withPair (now (rows .entry)) (sortOf (now (fields .entry))) (placeAmong (now (ids .entry)) known (numberOf (now (fields .entry)))) (placeAmong (now (ids .entry)) known (secondOf (now (fields .entry)))) ⌝ }
 {
     let first = place_of(ids, known, two_bytes(fields, 2));
     let second = place_of(ids, known, two_bytes(fields, 4));
-    let one_way = mark(rows, first, second);
+    mark(rows, first, second);
     if byte_at(fields, 1) == 1 {
-        return mark(one_way, second, first);
+        mark(rows, second, first);
     }
-    one_way
 }
 
 // The forbidden pairs of an accepted table: cell j of row i is set where a pair forbids that the task at place i is preempted by the one at place j.
@@ -56,8 +53,7 @@ pub fn read_barred(image: &[u8], tasks: Tasks) -> [u64; 64]
     let mut k: usize = 0;
     while k < count {
         let fields = record_at(image, first + k);
-        let more = forbid(rows, &ids, known, fields);
-        rows = more;
+        forbid(&mut rows, &ids, known, fields);
         k += 1;
     }
     rows

@@ -19,7 +19,7 @@ use rules::Verdict;
 use table::table_verdict;
 
 // The task at a place.
-fn task_at(tasks: Tasks, i: usize) -> Task
+pub fn task_at(tasks: Tasks, i: usize) -> Task
     requires { ⌜ i < 64 ⌝ }
     ensures { λ r. ⌜ r ≡ taskIn tasks i ⌝ }
 {
@@ -34,28 +34,28 @@ fn task_at(tasks: Tasks, i: usize) -> Task
     }
 }
 
-// Whether the task at place i may be preempted by the one at place j.
-pub fn decide(tasks: Tasks, barred: [u64; 64], i: usize, j: usize) -> bool
-    requires { ⌜ (i < 64) × (j < 64) ⌝ }
-    ensures { λ r. ⌜ r ≡ decidedBy tasks barred i j ⌝ }
-{
-    may_preempt(
-        tasks.periods[i],
-        is_set(barred[i], j),
-        task_at(tasks, i),
-        task_at(tasks, j),
-    )
-}
-
-// Row i of the map: a bit for each task that may preempt the one at place i.
+// Row i of the map: a bit for each task that may preempt the one at place i. What the row shares is read once, and the
+// tasks are read where they lie, so that no decision copies them.
 fn row(tasks: Tasks, barred: [u64; 64], i: usize) -> u64
     requires { ⌜ (i < 64) × (tasks .count ≤ 64) ⌝ }
     ensures { λ r. ⌜ r ≡ rowFrom (tasks .count) (decidedBy tasks barred i) ⌝ }
 {
+    let period = tasks.periods[i];
+    let bars = barred[i];
+    let low = task_at(tasks, i);
     let mut row: u64 = 0;
     let mut j: usize = 0;
     while j < tasks.count {
-        if decide(tasks, barred, i, j) {
+        let high = Task {
+            id: tasks.ids[j],
+            transaction: tasks.transactions[j],
+            priority: tasks.priorities[j],
+            offset: tasks.offsets[j],
+            jitter: tasks.jitters[j],
+            response: tasks.responses[j],
+            size: tasks.sizes[j],
+        };
+        if may_preempt(period, is_set(bars, j), low, high) {
             row += power(j);
         }
         j += 1;

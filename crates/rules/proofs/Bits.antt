@@ -1,12 +1,12 @@
 -- Laws of single bits: of a power of two, of two numbers joined by or, and of a sum of powers.
-use Prim.Native.Nat.{ℕ, zero, suc, _+_, _*_, _-_, _/_, _%_, _^_, _≤_, _<_, max}
-use mathlib.Core.Bool.{Bool, true, false, cond, _||_}
+use Prim.Native.Nat.{ℕ, zero, suc, _+_, _*_, _-_, _/_, _%_, _^_, _≤_, _<_, min, max}
+use mathlib.Core.Bool.{Bool, true, false, cond, _&&_, _||_, not}
 use mathlib.Core.Path.{_≡_, refl, ap, sym, _∙_}
 use native.Mathlib.Nat.{pow-suc, div-eq-of-lt, add-mul-div-right, add-zero, zero-add}
 use native.Mathlib.Omega.{arith}
 use borrow.Author.Tests.{ltb-true, ltb-false, eq-eqb, ne-eqb, eqb-true, eqb-false}
-use lib.Bits.{bitOr, or-shr, or-step}
-use lib.Pow.{pow-pos, pow-mono, pow-add, pow-lt, high}
+use lib.Bits.{bitOr, bitAnd, or-shr, or-step, and-shr, and-step}
+use lib.Pow.{pow-pos, pow-mono, pow-add, pow-lt, high, shr-shr, shl-exact}
 use lib.Dec.{ltb, eqb}
 use Rattle.rules.specs.Numbers.{sumTo}
 use Rattle.rules.proofs.Numbers.{either, sumTo-step, sumTo-zero, sumTo-ext}
@@ -146,3 +146,74 @@ bits-made x (suc n) h =
     let top : bitAt x n ≡ true = ap (λ (y : ℕ). bitAt y n) parts ∙ bit-added rest n small in
     let others : bitsTo (bitAt x) n ≡ bitsTo (bitAt rest) n = sumTo-ext (λ j. cond (bitAt x j) (2 ^ j) 0) (λ j. cond (bitAt rest j) (2 ^ j) 0) n (λ j l. ap (λ (b : Bool). cond b (2 ^ j) 0) (ap (λ (y : ℕ). bitAt y j) parts ∙ bit-below rest j n l)) in
     rw (top, others) (parts ∙ ap (λ (y : ℕ). y + 2 ^ n) (bits-made rest n small)))
+
+-- a bit above the lowest is the one below it in the number moved down
+pub bit-shift : (a j : ℕ) → a / 2 ^ suc j ≡ a / 2 / 2 ^ j
+bit-shift a j =
+    let e : 1 + j ≡ suc j = omega arith in
+    sym (shr-shr a 1 j ∙ ap (λ (n : ℕ). a / 2 ^ n) e)
+
+-- no bit of 0 is set
+pub bit-none : (j : ℕ) → bitAt 0 j ≡ false
+bit-none j = bit-lacks 0 j (pow-pos j)
+
+-- what two bits share
+shared-bit : (x y : ℕ) → x < 2 → y < 2 → eqb (min x y) 1 ≡ (eqb x 1 && eqb y 1)
+shared-bit x y p q =
+    either (eqb x 1)
+    (λ s.
+    let e : x ≡ 1 = eqb-true x 1 s in
+    either (eqb y 1)
+    (λ t.
+    let f : y ≡ 1 = eqb-true y 1 t in
+    rw (e, f))
+    (λ t. rw (t, s) (ne-eqb (min x y) 1 (λ g. eqb-false y 1 t (omega arith)))))
+    (λ s. rw s (ne-eqb (min x y) 1 (λ g. eqb-false x 1 s (omega arith))))
+
+-- bit j of what two numbers share is set where it is set in both
+pub bit-and : (a b j : ℕ) → bitAt (bitAnd a b) j ≡ (bitAt a j && bitAt b j)
+bit-and a b j =
+    let x : ℕ = a / 2 ^ j in
+    let y : ℕ = b / 2 ^ j in
+    let low : bitAnd x y % 2 ≡ min (x % 2) (y % 2) = omega (arith, and-step x y) in
+    rw (and-shr a b j, low) (shared-bit (x % 2) (y % 2) (omega arith) (omega arith))
+
+-- a number is no smaller than the power of 2 of one of its bits
+pub bit-enough : (p a : ℕ) → a / 2 ^ p % 2 ≡ 1 → 2 ^ p ≤ a
+bit-enough zero a h = omega arith
+bit-enough (suc p) a h = rw pow-suc (omega (arith, bit-enough p (a / 2) (rw bit-shift at h)))
+
+-- which is then taken from it: the bit is gone, and every other one stays as it was
+taken-gone : (p a : ℕ) → a / 2 ^ p % 2 ≡ 1 → (a - 2 ^ p) / 2 ^ p % 2 ≡ 0
+taken-gone zero a h = omega arith
+taken-gone (suc p) a h =
+    let h′ : a / 2 / 2 ^ p % 2 ≡ 1 = rw bit-shift at h in
+    let e : (a - 2 ^ suc p) / 2 ≡ a / 2 - 2 ^ p = omega (arith, pow-suc 2 p, bit-enough p (a / 2) h′) in
+    rw (bit-shift, e) (taken-gone p (a / 2) h′)
+
+taken-stays : (p a j : ℕ) → a / 2 ^ p % 2 ≡ 1 → (j ≡ p → ⊥) → (a - 2 ^ p) / 2 ^ j % 2 ≡ a / 2 ^ j % 2
+taken-stays zero a zero h n = absurd (n refl)
+taken-stays zero a (suc j) h n =
+    let e : (a - 1) / 2 ≡ a / 2 = omega arith in
+    rw (bit-shift (a - 1) j, bit-shift a j, e)
+taken-stays (suc p) a zero h n = omega (arith, pow-suc 2 p, bit-enough p (a / 2) (rw bit-shift at h))
+taken-stays (suc p) a (suc j) h n =
+    let h′ : a / 2 / 2 ^ p % 2 ≡ 1 = rw bit-shift at h in
+    let e : (a - 2 ^ suc p) / 2 ≡ a / 2 - 2 ^ p = omega (arith, pow-suc 2 p, bit-enough p (a / 2) h′) in
+    rw (bit-shift (a - 2 ^ suc p) j, bit-shift a j, e) (taken-stays p (a / 2) j h′ (λ f. n (omega arith)))
+
+pub bit-taken : (a p : ℕ) → a / 2 ^ p % 2 ≡ 1 → (j : ℕ) → bitAt (a - 2 ^ p) j ≡ (bitAt a j && not (eqb j p))
+bit-taken a p there j =
+    either (eqb j p)
+    (λ t.
+    let e : j ≡ p = eqb-true j p t in
+    rw (e, taken-gone p a there, there, eq-eqb p p refl))
+    (λ t. rw (t, taken-stays p a j there (eqb-false j p t)) (sym (and-true (bitAt a j))))
+  where
+    and-true : (b : Bool) → (b && true) ≡ b
+    and-true true = refl
+    and-true false = refl
+
+-- a shift of 1 by fewer than 64 places loses nothing
+pub power-fits : (p : ℕ) → p < 64 → (1 * 2 ^ p) % 18446744073709551616 ≡ 2 ^ p
+power-fits p h = shl-exact {a = 1} 1 p 64 (omega arith) (omega arith) ∙ omega arith

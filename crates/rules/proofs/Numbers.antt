@@ -1,11 +1,11 @@
 -- Laws of what is asked of the numbers from 0 up to n.
 use Prim.Native.Nat.{ℕ, zero, suc, _+_, _≤_, _<_, max}
 use mathlib.Core.List.{List, [], _∷_, _++_}
-use mathlib.Core.Bool.{Bool, true, false, cond}
+use mathlib.Core.Bool.{Bool, true, false, cond, _||_}
 use mathlib.Core.Path.{_≡_, refl, _∙_}
 use native.Mathlib.Numerals.{add-one}
 use native.Mathlib.Omega.{arith}
-use borrow.Author.Tests.{ltb-true, ltb-false, le-ltb}
+use borrow.Author.Tests.{ltb-true, ltb-false, lt-ltb, le-ltb}
 use lib.ListN.{length, getD, set, length-append, List·getD-append}
 use lib.Seq.{getD-at, getD-set-same, getD-set-other}
 use lib.Dec.{ltb}
@@ -142,6 +142,19 @@ some-true test n k h passes =
 
 pub some-false : (test : ℕ → Bool) (n : ℕ) → lowest test n ≡ n → some test n ≡ false
 some-false test n e = le-ltb (lowest test n) n (omega arith)
+
+-- one more number that is asked
+pub some-more : (test : ℕ → Bool) (n : ℕ) → some test (n + 1) ≡ (some test n || test n)
+unfolding lowest
+some-more test n =
+    rw add-one
+    (either (ltb (lowest test n) n)
+    (λ t. rw (t, lt-ltb (lowest test n) (suc n) (omega (arith, ltb-true (lowest test n) n t))))
+    (λ t.
+    rw t
+    (either (test n)
+    (λ u. rw (u, lt-ltb n (suc n) (omega arith)))
+    (λ u. rw (u, le-ltb (suc n) (suc n) (omega arith))))))
 
 -- where none passes, each fails, and where some passes, it has a place
 pub some-fails : (test : ℕ → Bool) (n k : ℕ) → k < n → some test n ≡ false → test k ≡ false

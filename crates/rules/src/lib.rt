@@ -24,6 +24,7 @@ pub enum Form {
 }
 
 // The answer of the checks: refusal number and place, or 0 and 0 for an accepted image or call.
+#[repr(C)]
 pub struct Verdict {
     pub number: u32,
     pub place: u32,
@@ -41,6 +42,7 @@ pub struct Task {
 }
 
 // What a bound call returns. A refused call has number and place, and all else 0.
+#[repr(C)]
 pub struct Bounds {
     pub number: u32,
     pub place: u32,
@@ -53,6 +55,7 @@ pub struct Bounds {
 }
 
 // What a patch call returns. A refused call has number and place, and all else 0.
+#[repr(C)]
 pub struct Patched {
     pub number: u32,
     pub place: u32,

@@ -14,14 +14,15 @@ use Rattle.rules.specs.Preempt.{cell}
 use Rattle.rules.proofs.Numbers.{either}
 use Rattle.stack.specs.Places.{has, Without, Shared}
 use Rattle.stack.specs.Related.{With, Passing, Higher, relatedIn, RelatedRows}
-use Rattle.stack.proofs.Sets.{shift, none, without-has}
+use Rattle.rules.proofs.Bits.{bit-shift, bit-none}
+use Rattle.stack.proofs.Sets.{without-has}
 
 -- a place that is not in the set leaves room for its power of 2
 pub with-fits : (p k a : ℕ) → p < k → a < 2 ^ k → a / 2 ^ p % 2 ≡ 0 → a + 2 ^ p < 2 ^ k
 with-fits p zero a below fits outside = absurd (omega arith)
 with-fits zero (suc k) a below fits outside = omega (arith, pow-suc 2 k)
 with-fits (suc p) (suc k) a below fits outside =
-    let more = with-fits p k (a / 2) (omega arith) (omega (arith, pow-suc 2 k)) (rw shift at outside) in
+    let more = with-fits p k (a / 2) (omega arith) (omega (arith, pow-suc 2 k)) (rw bit-shift at outside) in
     omega (arith, pow-suc 2 k, pow-suc 2 p)
 
 -- the bit of a place that is not in the set
@@ -33,7 +34,7 @@ with-there : (p a : ℕ) → a / 2 ^ p % 2 ≡ 0 → (a + 2 ^ p) / 2 ^ p % 2 ≡
 with-there zero a outside = omega arith
 with-there (suc p) a outside =
     let e : (a + 2 ^ suc p) / 2 ≡ a / 2 + 2 ^ p = omega (arith, pow-suc 2 p) in
-    rw (shift, e) (with-there p (a / 2) (rw shift at outside))
+    rw (bit-shift, e) (with-there p (a / 2) (rw bit-shift at outside))
 
 -- and every other one stays, since the set is the larger one without the place
 pub with-has : (a p : ℕ) → has a p ≡ false → With a p (a + 2 ^ p)
@@ -54,7 +55,7 @@ below-next n j other =
 
 module _ (test : ℕ → Bool) where
   pub passing-none : Passing test 0 0
-  passing-none j = none j ∙ rw (le-ltb j 0 (omega arith))
+  passing-none j = bit-none j ∙ rw (le-ltb j 0 (omega arith))
 
   -- the next place is not in the set yet
   pub passing-outside : (n set : ℕ) → Passing test n set → has set n ≡ false
@@ -84,7 +85,7 @@ pub rows-none : {count : ℕ} {priorities map rows : List ℕ} → length rows �
 rows-none room zeros =
     record {
       row-count = room;
-      cells = λ i j. rw (zeros i, le-ltb i 0 (omega arith)) (none j);
+      cells = λ i j. rw (zeros i, le-ltb i 0 (omega arith)) (bit-none j);
     }
 
 pub rows-more : {count : ℕ} {priorities map rows : List ℕ} {place : ℕ} (above row : ℕ)

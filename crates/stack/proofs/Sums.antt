@@ -17,7 +17,8 @@ use Rattle.rules.proofs.Tests.{both-first, both-second, T-true, true-T}
 use Rattle.stack.specs.Places.{has, Without, Shared, Inside}
 use Rattle.stack.specs.Setting.{Ready}
 use Rattle.stack.specs.Paths.{sizeIn, LargestAt, PathBound}
-use Rattle.stack.proofs.Sets.{without-inside, without-outside, none, lowest-has}
+use Rattle.rules.proofs.Bits.{bit-none}
+use Rattle.stack.proofs.Sets.{without-inside, without-outside, lowest-has}
 
 -- sums that are all 0
 pub zeros : (k j : ℕ) → _≡_ {A = ℕ} (getD (replicate k 0) j 0) 0
@@ -58,7 +59,7 @@ sought-more {sums} {set} {largest} {rest} {i} {smaller} {larger} found taken mor
 pub sought-all : {sums : List ℕ} {set largest rest : ℕ} → Sought sums set largest rest → rest ≡ 0 → LargestAt sums set largest
 sought-all found e =
     record {
-      most = λ j h. found .most j h (rw e (none j));
+      most = λ j h. found .most j h (rw e (bit-none j));
       reached = found .reached;
     }
 
@@ -207,4 +208,4 @@ module _ {n : ℕ} {rows sizes order : List ℕ} {cover : ℕ} (ready : Ready n 
 pub underway-all : {n : ℕ} {rows sizes order : List ℕ} {cover : ℕ} {sums : List ℕ} {rest k r : ℕ}
     → Underway n rows sizes order cover sums rest k → rest ≡ 0 → LargestAt sums cover r → PathBound n rows sizes cover r
 underway-all {n} {rows} {sizes} {order} {cover} so-far done largest =
-    settled-all n rows sizes cover largest (λ j h. so-far .settled j h (rw done (none j)))
+    settled-all n rows sizes cover largest (λ j h. so-far .settled j h (rw done (bit-none j)))

@@ -10,8 +10,7 @@ use borrow.Author.Needs.{needs}
 use lib.Dec.{eqb}
 use lib.ListN.{getD}
 use Rattle.rules.proofs.Numbers.{sumTo-zero}
-use Rattle.rules.proofs.Bits.{bits-more, bits-same, bits-room, bits-at}
-use Rattle.preempt.specs.Bits.{bitAt, bitsTo}
+use Rattle.rules.proofs.Bits.{bitAt, bitsTo, bits-more, bits-same, bits-room, bits-at}
 use Rattle.patch.proofs.touched.tasks_of.Statement.{statement}
 use Rattle.patch.proofs.touched.tasks_of.Tie as tie
 

@@ -1,6 +1,6 @@
 -- The loop keeps the map of what the pairs passed forbid; each pair adds its bits.
 use Prim.Native.Nat.{ℕ, _+_, _-_, _≤_, _<_}
-use mathlib.Core.Path.{_≡_, ap, _∙_}
+use mathlib.Core.Path.{_≡_, ap, sym, _∙_}
 use mathlib.Core.List.{List, []}
 use native.Mathlib.Omega.{arith}
 use borrow.Author.Needs.{needs}
@@ -17,6 +17,7 @@ use Rattle.preempt.specs.declared.tasks.Tasks.{Tasks}
 use Rattle.preempt.proofs.Reading.{ids-directory}
 use Rattle.preempt.proofs.Pairs.{first-below, second-below, barredTo, none-barred, all-barred, pair-marked}
 use Rattle.preempt.proofs.Accepted.{shape, names-listed, pair-record}
+use Rattle.rules.proofs.Maps.{map-length}
 use Rattle.preempt.proofs.Maps.{map-none}
 use Rattle.preempt.proofs.barred.read_barred.Statement.{statement}
 use Rattle.preempt.proofs.barred.read_barred.Tie as tie
@@ -75,6 +76,10 @@ place c name =
     ap (λ (r : List ℕ). placeAmong (tasks-of c .ids) (tasks-of c .count) (name r)) (pair-read c)
     ∙ place-in (tasks (records-of c)) (tasks-of c .ids) (tasks-of c .count) (directory c) (name (getD (pairs (records-of c)) (c .before .before .loop .k) []))
 
+-- a map has 64 rows
+counts : (rs : List (List ℕ)) (k : ℕ) (rows : List ℕ) → rows ≡ mapFrom (taskCount rs) (barredTo rs k) → 64 ≡ length rows
+counts rs k rows e = sym (ap length e ∙ map-length (taskCount rs) (barredTo rs k))
+
 count-kind-requires : tie.Need-count-kind-requires Inv-loop μ-loop
 count-kind-requires c κs = search needs
 
@@ -97,15 +102,19 @@ record-at-requires : tie.Need-record-at-requires Inv-loop μ-loop
 record-at-requires c κs = search needs
 
 slice-aggregate-forbid : tie.Need-slice-aggregate-forbid Inv-loop μ-loop
-slice-aggregate-forbid c = search needs
+slice-aggregate-forbid c = counts (records (c .before .before .before .before .before .before .before .before .args .image .now)) (c .before .before .before .loop .k) (c .before .before .before .loop .rows) (c .before .before .before .loop .inv .3)
+
+slice-aggregate-forbid-2 : tie.Need-slice-aggregate-forbid-2 Inv-loop μ-loop
+slice-aggregate-forbid-2 c = search needs
 
 forbid-requires : tie.Need-forbid-requires Inv-loop μ-loop
 forbid-requires c κs =
-    let read = c .before in
+    let read = c .before .before in
     let s = shaped (read .before .before .before .before) in
     let first = place read numberOf in
-    let second = place read secondOf in (
-      (directory read .room, directory read .rising),
+    let second = place read secondOf in
+    let long = counts (records-of read) (read .before .before .loop .k) (read .before .before .loop .rows) (read .before .before .loop .inv .3) in (
+      (omega arith, (directory read .room, directory read .rising)),
       (
         omega (arith, first-below (records-of read) s (named read) (read .before .before .loop .k) (inside read) _ _ first second, s .few-tasks),
         omega (arith, second-below (records-of read) s (named read) (read .before .before .loop .k) (inside read) _ _ first second, s .few-tasks),
@@ -120,14 +129,14 @@ loop-less c = search needs
 
 loop-again : tie.Need-loop-again Inv-loop μ-loop
 loop-again c =
-    let read = c .before .before in
+    let read = c .before .before .before .before in
     let first = placeAmong (tasks-of read .ids) (tasks-of read .count) (numberOf (read .record-at .result .now)) in
     let second = placeAmong (tasks-of read .ids) (tasks-of read .count) (secondOf (read .record-at .result .now)) in
     let k = read .before .before .loop .k in (
       omega arith,
       omega arith,
       omega arith,
-      c .forbid .ensures
+      c .before .forbid .ensures
           ∙ ap (λ (r : List ℕ). withPair (read .before .before .loop .rows) (sortOf r) first second) (pair-read read)
           ∙ ap (λ (rows : List ℕ). withPair rows (sortOf (getD (pairs (records-of read)) k [])) first second) (read .before .before .loop .inv .3)
           ∙ pair-marked (records-of read) (shaped (read .before .before .before .before)) (named read) k (inside read) first second (place read numberOf) (place read secondOf),
@@ -152,6 +161,7 @@ read-barred-spec =
     add-record-at
     record-at-requires
     slice-aggregate-forbid
+    slice-aggregate-forbid-2
     forbid-requires
     add-k
     loop-less

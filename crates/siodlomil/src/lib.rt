@@ -1,0 +1,69 @@
+// The C interface: the calls of the library under names that C can link. Each lent slice is a pointer and its length.
+ghost use mathlib.Core.Path.{_≡_};
+ghost use Rattle.rules.specs.Calls.{mapVerdict, mapAfter, BoundCall, patchCallVerdict, patchAnswer, roomAfter, patchedAfter};
+ghost use Rattle.siodlomil.specs.Standing.{OffendsAt};
+use patch::absent::verdict_of_both;
+use patch::call::apply_patch;
+use preempt::map::fill_map;
+use rules::Bounds;
+use rules::Patched;
+use rules::Verdict;
+use stack::call::find_bounds;
+
+// Where the offending part stands in a patch image, in bytes: 0 and 0 where nothing offends.
+#[repr(C)]
+pub struct Offending {
+    pub at: u64,
+    pub length: u64,
+}
+
+// Fills a lent map from a table image. A refusal answers its number and place, and writes nothing.
+#[no_mangle]
+pub extern "C" fn siodlomil_map(image: &[u8], map: &mut [u64]) -> Verdict
+    ensures { λ r. ⌜ r ≡ mapVerdict (now (image .entry)) (now (map .entry)) ⌝ }
+    ensures { λ _. ⌜ now (map .exit) ≡ mapAfter (now (image .entry)) (now (map .entry)) ⌝ }
+{
+    fill_map(image, map)
+}
+
+// The four bounds of a table image over a lent map of any contents, with the chain's ids in the lent room. A refusal
+// answers its number and place, and writes nothing.
+#[no_mangle]
+pub extern "C" fn siodlomil_bounds(image: &[u8], map: &[u64], ids: &mut [u16]) -> Bounds
+    ensures { λ r. ⌜ BoundCall (now (image .entry)) (now (map .entry)) (now (ids .entry)) r (now (ids .exit)) ⌝ }
+{
+    find_bounds(image, map, ids)
+}
+
+// Applies a patch to a base: the outcome's image and its map go to the lent rooms, and the number of touched tasks and the
+// outcome's length are answered. A refusal answers its number and place, and writes nothing.
+#[no_mangle]
+pub extern "C" fn siodlomil_patch(
+    base: &[u8],
+    patch: &[u8],
+    map: &[u64],
+    room: &mut [u8],
+    carried: &mut [u64],
+) -> Patched
+    ensures { λ r. ⌜ r ≡ patchAnswer (patchCallVerdict (now (base .entry)) (now (patch .entry)) (now (map .entry)) (now (room .entry)) (now (carried .entry))) (now (base .entry)) (now (patch .entry)) ⌝ }
+    ensures { λ _. ⌜ now (room .exit) ≡ roomAfter (patchCallVerdict (now (base .entry)) (now (patch .entry)) (now (map .entry)) (now (room .entry)) (now (carried .entry))) (now (base .entry)) (now (patch .entry)) (now (room .entry)) ⌝ }
+    ensures { λ _. ⌜ now (carried .exit) ≡ patchedAfter (patchCallVerdict (now (base .entry)) (now (patch .entry)) (now (map .entry)) (now (room .entry)) (now (carried .entry))) (now (base .entry)) (now (patch .entry)) (now (map .entry)) (now (carried .entry)) ⌝ }
+{
+    apply_patch(base, patch, map, room, carried)
+}
+
+// Where the 32 bytes of refusal 9 stand in the patch image, and 0 and 0 where a patch call answers anything else.
+#[no_mangle]
+pub extern "C" fn siodlomil_offending(base: &[u8], patch: &[u8]) -> Offending
+    ensures { λ r. ⌜ OffendsAt (now (base .entry)) (now (patch .entry)) r ⌝ }
+{
+    let verdict = verdict_of_both(base, patch);
+    if verdict.number != 9 {
+        return Offending { at: 0, length: 0 };
+    }
+    let place = verdict.place as u64;
+    Offending {
+        at: 512 * (place / 15) + 8 + 32 * (place % 15),
+        length: 32,
+    }
+}

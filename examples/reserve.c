@@ -1,0 +1,132 @@
+/*
+ * The stack reserve of a task table before and after a patch, and what refusals look like:
+ *
+ *     reserve TABLE PATCH OTHER
+ *
+ * reads a table image and two patch images. It applies PATCH to the table, then PATCH once more to the outcome, and OTHER
+ * to the table, and prints what each call answers.
+ */
+#include <inttypes.h>
+#include <stdio.h>
+#include <stdlib.h>
+
+#include "siodlomil.h"
+
+/* A table image with its map. */
+typedef struct {
+    uint8_t image[SIODLOMIL_TABLE_BYTES];
+    size_t bytes;
+    uint64_t map[SIODLOMIL_MAP_ROWS];
+} table;
+
+/* A patch image. */
+typedef struct {
+    uint8_t image[SIODLOMIL_PATCH_BYTES];
+    size_t bytes;
+} patch;
+
+/* Ends the program with a message about a file. */
+static void fail(const char *path, const char *what)
+{
+    fprintf(stderr, "reserve: %s: %s\n", path, what);
+    exit(EXIT_FAILURE);
+}
+
+/* Reads a whole file of at most `most` bytes and returns its length. */
+static size_t read_file(const char *path, uint8_t *bytes, size_t most)
+{
+    FILE *file = fopen(path, "rb");
+    if (file == NULL) {
+        fail(path, "cannot be opened");
+    }
+    size_t length = fread(bytes, 1, most, file);
+    int more = fgetc(file);
+    if (ferror(file)) {
+        fail(path, "cannot be read");
+    }
+    if (more != EOF) {
+        fail(path, "is longer than any image of its kind");
+    }
+    fclose(file);
+    return length;
+}
+
+/* Prints how a call ended, and returns whether it was accepted. */
+static int is_accepted(const char *call, uint32_t number, uint32_t place)
+{
+    if (number == 0) {
+        printf("%s: accepted\n", call);
+        return 1;
+    }
+    printf("%s: refused %" PRIu32 " at %" PRIu32 "\n", call, number, place);
+    return 0;
+}
+
+/* Prints the reserve of a table, the chain of tasks that reaches it, and the other bounds. */
+static void print_reserve(const table *of)
+{
+    uint16_t ids[SIODLOMIL_CHAIN_IDS];
+    siodlomil_bounds_answer answer =
+        siodlomil_bounds(of->image, of->bytes, of->map, SIODLOMIL_MAP_ROWS, ids, SIODLOMIL_CHAIN_IDS);
+    if (!is_accepted("bounds", answer.number, answer.place)) {
+        return;
+    }
+    printf("  reserve %" PRIu32 ", chain", answer.chain);
+    for (uint32_t i = 0; i < answer.length; i++) {
+        printf(" %u", (unsigned)ids[i]);
+    }
+    printf("\n  tasks %" PRIu32 ", path %" PRIu32 ", transactions %" PRIu32 ", levels %" PRIu32 "\n", answer.tasks,
+           answer.path, answer.transactions, answer.levels);
+}
+
+/* Applies a patch to a base and returns whether the outcome is a table. */
+static int apply(const char *call, const table *base, const patch *with, table *outcome)
+{
+    siodlomil_patch_answer answer =
+        siodlomil_patch(base->image, base->bytes, with->image, with->bytes, base->map, SIODLOMIL_MAP_ROWS,
+                        outcome->image, SIODLOMIL_TABLE_BYTES, outcome->map, SIODLOMIL_MAP_ROWS);
+    if (!is_accepted(call, answer.number, answer.place)) {
+        return 0;
+    }
+    outcome->bytes = answer.length;
+    printf("  touched %" PRIu32 ", %" PRIu32 " bytes\n", answer.touched, answer.length);
+    return 1;
+}
+
+/* Prints the record of a patch that is to be taken out though the base lacks it, if there is one. */
+static void print_offending(const table *base, const patch *with)
+{
+    siodlomil_offending_answer answer = siodlomil_offending(base->image, base->bytes, with->image, with->bytes);
+    printf("  offending %" PRIu64 " bytes at %" PRIu64 "\n", answer.length, answer.at);
+    for (uint64_t i = 0; i < answer.length; i++) {
+        printf("%s%02x%s", i % 16 == 0 ? "    " : " ", (unsigned)with->image[answer.at + i], i % 16 == 15 ? "\n" : "");
+    }
+}
+
+int main(int count, char **words)
+{
+    static table before, after, again;
+    static patch first, other;
+    if (count != 4) {
+        fprintf(stderr, "usage: reserve TABLE PATCH OTHER\n");
+        return EXIT_FAILURE;
+    }
+    before.bytes = read_file(words[1], before.image, sizeof before.image);
+    first.bytes = read_file(words[2], first.image, sizeof first.image);
+    other.bytes = read_file(words[3], other.image, sizeof other.image);
+
+    siodlomil_map_answer map = siodlomil_map(before.image, before.bytes, before.map, SIODLOMIL_MAP_ROWS);
+    if (!is_accepted("map", map.number, map.place)) {
+        return EXIT_FAILURE;
+    }
+    print_reserve(&before);
+    if (!apply("patch", &before, &first, &after)) {
+        return EXIT_FAILURE;
+    }
+    print_reserve(&after);
+    apply("the same patch on its outcome", &after, &first, &again);
+    if (!apply("the other patch", &before, &other, &again)) {
+        print_offending(&before, &other);
+    }
+    return EXIT_SUCCESS;
+}

@@ -1,0 +1,155 @@
+/*
+ * Siodlomil from C: who may preempt whom in a task table, how much stack the tasks need at most, and patches to a table.
+ *
+ * Link with libsiodlomil.a, which `rt staticlib siodlomil` writes to target/staticlib/. It is for x86-64 Linux and uses
+ * memcpy and memset of the C library, and nothing else. Every function in it is proved to meet its promise for every
+ * input; the promises stand above each function in crates/siodlomil/src/lib.rt, and below in words.
+ *
+ * What holds for every call:
+ *
+ * - All memory is the caller's. A call keeps no pointer, allocates nothing and has no state of its own, so calls may run
+ *   at the same time, each on its own buffers. tools/stack-use prints how much stack a call takes.
+ * - Each pointer is followed by its length, counted in elements. It points to that many elements, aligned for their type,
+ *   and is not NULL even where the length is 0.
+ * - A buffer that is written overlaps no other buffer of the same call. Buffers that are only read may overlap each other.
+ * - Any bytes are an image to the library: whatever is wrong with them is told by a refusal.
+ * - An accepted call answers number 0 and place 0. A refused one answers the number and place of its refusal, all else is
+ *   0, and nothing is written: every lent buffer is as it was.
+ *
+ * Refusals. Checks run in the order that each function names; each runs over the whole image before the next, and the
+ * lowest place wins. Blocks and records are counted from 0 through the image.
+ *
+ *   number  given when                                                              place
+ *    1      length 0, not a multiple of 512, or above 11,776 bytes                  0
+ *    2      a block's check is wrong                                                block
+ *    3      header, record count or zero fill of a block is wrong                   block
+ *    4      unknown kind, or a byte that has to be 0 is not                         record
+ *    5      not after the record before it, in the image's order                    record
+ *    6      a field out of range, a pair's byte 1 above 1, or a task paired with
+ *           itself                                                                  record
+ *    7      too many of a kind: 16 transactions, 64 tasks, 256 pairs                kind
+ *    8      transaction or task not listed, or offset not below the period          record
+ *    9      a record to take out is not in the base, byte for byte                  patch record
+ *   10      the outcome of a patch breaks order, 7 or 8                             0
+ *   11      a lent map or room is too short                                         0
+ *   12      a bound passes 4,294,967,295                                            0
+ *   21-27   1 to 7 for a patch: 23,040 bytes at most (21); byte 31 of a record
+ *           neither 0 nor 1 (24); too many taken out, or too many put in (27)       as for 1 to 7
+ */
+#ifndef SIODLOMIL_H
+#define SIODLOMIL_H
+
+#include <stddef.h>
+#include <stdint.h>
+
+#ifdef __cplusplus
+extern "C" {
+#endif
+
+/* A block of an image, and a record in it. */
+#define SIODLOMIL_BLOCK_BYTES 512
+#define SIODLOMIL_RECORD_BYTES 32
+
+/* The longest table, 23 blocks: a room of this length holds the outcome of every patch. */
+#define SIODLOMIL_TABLE_BYTES 11776
+
+/* The longest patch, 45 blocks. */
+#define SIODLOMIL_PATCH_BYTES 23040
+
+/* The rows of a map, a 64-bit number for each. */
+#define SIODLOMIL_MAP_ROWS 64
+
+/* The entries of a room for a chain's ids. */
+#define SIODLOMIL_CHAIN_IDS 64
+
+/* What siodlomil_map answers. */
+typedef struct siodlomil_map_answer {
+    uint32_t number;
+    uint32_t place;
+} siodlomil_map_answer;
+
+/* What siodlomil_bounds answers. */
+typedef struct siodlomil_bounds_answer {
+    uint32_t number;
+    uint32_t place;
+    uint32_t tasks;        /* how many tasks the table has */
+    uint32_t chain;        /* the chain bound: the reserve that the shared stack needs */
+    uint32_t path;         /* the path bound */
+    uint32_t transactions; /* the transactions bound */
+    uint32_t levels;       /* the levels bound */
+    uint32_t length;       /* how many ids of the chain are written */
+} siodlomil_bounds_answer;
+
+/* What siodlomil_patch answers. */
+typedef struct siodlomil_patch_answer {
+    uint32_t number;
+    uint32_t place;
+    uint32_t touched; /* how many tasks of the outcome the patch touches */
+    uint32_t length;  /* how many bytes of the outcome are written */
+} siodlomil_patch_answer;
+
+/* What siodlomil_offending answers. */
+typedef struct siodlomil_offending_answer {
+    uint64_t at;
+    uint64_t length;
+} siodlomil_offending_answer;
+
+/*
+ * Fills a map from a table image: refusals 1 to 8, then 11.
+ *
+ * image  read: the table image.
+ * map    written: at least 64 rows. Bit j of row i, counted from the lowest, is set where the task at place i may be
+ *        preempted by the task at place j; a task's place is its rank among the table's tasks, from 0. Rows and bits at
+ *        or beyond the number of tasks are 0. Rows beyond the 64 keep their values.
+ */
+siodlomil_map_answer siodlomil_map(const uint8_t *image, size_t image_bytes, uint64_t *map, size_t map_rows);
+
+/*
+ * Finds the four bounds of a table image, and the chain that reaches the first: refusals 1 to 8, then 11, then 12.
+ *
+ * image  read: the table image.
+ * map    read: at least 64 rows, of any contents. A set bit counts only where both places hold tasks and the first has
+ *        lower priority.
+ * ids    written: at least 64 entries. The heaviest chain by its tasks' ids, lowest priority first; of chains that weigh
+ *        the same the first, compared id by id. Entries beyond the answered length keep their values.
+ *
+ * Always chain <= path <= levels, and chain <= transactions. A table without tasks has 0 for each, and no ids.
+ */
+siodlomil_bounds_answer siodlomil_bounds(const uint8_t *image, size_t image_bytes, const uint64_t *map, size_t map_rows,
+                                         uint16_t *ids, size_t ids_entries);
+
+/*
+ * Applies a patch image to a table image: refusals 1 to 8 for the base, 21 to 27 for the patch, then 9, 10 and 11.
+ *
+ * base      read: the table image that is patched.
+ * patch     read: the patch image.
+ * base_map  read: at least 64 rows, the map of the base.
+ * room      written: the outcome's table image. At least as long as that; 11,776 bytes are always enough. Bytes beyond the
+ *           answered length keep their values.
+ * new_map   written: at least 64 rows. A bit for two tasks that the patch does not touch is the base map's at their old
+ *           places, any other is decided from the outcome. Rows beyond the 64 keep their values.
+ *
+ * A task is touched where a patch record is its own record, names it in a pair, or is its transaction's record. Where
+ * base_map is what siodlomil_map fills in for the base, new_map is what it would fill in for the outcome.
+ */
+siodlomil_patch_answer siodlomil_patch(const uint8_t *base, size_t base_bytes, const uint8_t *patch, size_t patch_bytes,
+                                       const uint64_t *base_map, size_t base_map_rows, uint8_t *room, size_t room_bytes,
+                                       uint64_t *new_map, size_t new_map_rows);
+
+/*
+ * Where refusal 9 points: the record to take out that the base lacks, as bytes of the patch image.
+ *
+ * base   read: the table image that was to be patched.
+ * patch  read: the patch image.
+ *
+ * Where siodlomil_patch answers 9 for this base and patch, length is 32 and the record is patch[at] to patch[at + 31].
+ * Where it answers anything else, accepted or refused, at and length are 0.
+ */
+siodlomil_offending_answer siodlomil_offending(const uint8_t *base, size_t base_bytes, const uint8_t *patch,
+                                               size_t patch_bytes);
+
+#ifdef __cplusplus
+}
+#endif
+
+#endif
