@@ -6,6 +6,7 @@ use mathlib.Core.Path.{_≡_, sym, ap, _∙_}
 use native.Mathlib.Omega.{arith}
 use borrow.Author.Tests.{leb-true, leb-false, eqb-true, eqb-false, eq-eqb, ne-eqb}
 use lib.ListN.{length, getD}
+use lib.Seq.{ext-getD}
 use lib.Dec.{leb, ltb, eqb}
 use Rattle.rules.specs.declared.Form.{Form}
 use Rattle.rules.specs.Blocks.{recordCount}
@@ -15,6 +16,13 @@ use Rattle.rules.proofs.Image.Frame.{frame-of, records-fit}
 use Rattle.rules.specs.Records.{kindOf, wayOf, countOf, mostOf, tooMany}
 use Rattle.rules.proofs.Numbers.{either, sumTo-ext}
 use Rattle.table.specs.Tally.{slotOf, Tallied}
+
+-- two tallies of the same records are equal
+pub tally-determined : (rs : List (List ℕ)) (counts others : List ℕ) → Tallied rs counts → Tallied rs others → counts ≡ others
+tally-determined rs counts others p q =
+    ext-getD 0 counts others
+    (p .size ∙ sym (q .size))
+    (λ i h. p .right i (omega (arith, p .size)) ∙ sym (q .right i (omega (arith, p .size))))
 
 -- a record is counted at k + 4 * w exactly when it is of kind k and way w
 slot-is : (r : List ℕ) (k w : ℕ) → 1 ≤ k → k ≤ 3 → w ≤ 1 → eqb (slotOf r) (k + 4 * w) ≡ (eqb (kindOf r) k && eqb (wayOf r) w)
