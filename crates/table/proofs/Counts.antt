@@ -1,21 +1,27 @@
 -- The tally of one pass holds the counts of each kind and way.
-use Prim.Native.Nat.{ℕ, _+_, _*_, _≤_}
+use Prim.Native.Nat.{ℕ, zero, suc, _+_, _*_, _-_, _≤_, _<_, min}
 use mathlib.Core.List.{List, []}
 use mathlib.Core.Bool.{Bool, true, false, cond, _&&_, _||_}
 use mathlib.Core.Path.{_≡_, sym, ap, _∙_}
 use native.Mathlib.Omega.{arith}
-use borrow.Author.Tests.{leb-true, leb-false, eqb-true, eqb-false, eq-eqb, ne-eqb}
+use borrow.Author.Tests.{leb-true, leb-false, ltb-true, ltb-false, eqb-true, eqb-false, eq-eqb, ne-eqb}
 use lib.ListN.{length, getD}
 use lib.Seq.{ext-getD}
 use lib.Dec.{leb, ltb, eqb}
 use Rattle.rules.specs.declared.Form.{Form}
-use Rattle.rules.specs.Blocks.{recordCount}
-use Rattle.rules.specs.Refusals.{accepted, frameVerdict}
+use Rattle.rules.specs.declared.Form.the-variants.{Table}
+use Rattle.rules.specs.Numbers.{Bytes, sumTo, countTo}
+use Rattle.rules.specs.Blocks.{records, recordCount}
+use Rattle.rules.specs.Refusals.{accepted, orElse, frameVerdict, recordsVerdict, referenceRefusal, tableVerdict}
+use Rattle.rules.proofs.Refusals.{accepted-first, accepted-second}
+use Rattle.rules.proofs.Table.Kinds.{Grouped, length-ofKind}
+use Rattle.rules.proofs.Table.Order.{kind-rises}
+use Rattle.rules.proofs.Table.Shape.{shape-of, records-bytes}
 use Rattle.rules.proofs.Blocks.{mostBlocks-most}
 use Rattle.rules.proofs.Image.Frame.{frame-of, records-fit}
-use Rattle.rules.specs.Records.{kindOf, wayOf, countOf, mostOf, tooMany}
+use Rattle.rules.specs.Records.{kindOf, wayOf, ofKind, countOf, mostOf, tooMany}
 use Rattle.rules.proofs.Numbers.{either, sumTo-ext}
-use Rattle.table.specs.Tally.{slotOf, Tallied}
+use Rattle.table.specs.Tally.{slotOf, Tallied, KindStart}
 
 -- two tallies of the same records are equal
 pub tally-determined : (rs : List (List ℕ)) (counts others : List ℕ) → Tallied rs counts → Tallied rs others → counts ≡ others
@@ -78,3 +84,45 @@ pub records-few : (form : Form) (image : List ℕ) → accepted (frameVerdict fo
 records-few form image a =
     let f = frame-of form image a in
     omega (arith, records-fit form image f, f .not-too-many, mostBlocks-most form)
+
+-- the records of an accepted table are accepted
+pub records-accepted : (image : List ℕ) → accepted (tableVerdict image) ≡ true → accepted (recordsVerdict Table (records image)) ≡ true
+unfolding tableVerdict
+records-accepted image table =
+    accepted-first (recordsVerdict Table (records image)) (referenceRefusal (records image))
+    (accepted-second (frameVerdict Table image) (orElse (recordsVerdict Table (records image)) (referenceRefusal (records image))) table)
+
+-- the kinds of accepted records do not fall
+pub kinds-grouped : (image : List ℕ) → Bytes image → accepted (recordsVerdict Table (records image)) ≡ true → Grouped (records image)
+kinds-grouped image bytes right i j b l =
+    kind-rises (getD (records image) i []) (getD (records image) j []) (records-bytes image bytes j) (shape-of image bytes right .keys-rise i j b l)
+
+-- as many numbers pass as lie between two
+count-between : (test : ℕ → Bool) (a b n : ℕ) → a ≤ b → ((i : ℕ) → i < a → test i ≡ false) → ((i : ℕ) → a ≤ i → i < b → i < n → test i ≡ true) → ((i : ℕ) → b ≤ i → i < n → test i ≡ false)
+    → countTo test n ≡ min n b - min n a
+unfolding sumTo
+count-between test a b zero h below within above = omega arith
+count-between test a b (suc n) h below within above =
+    let before = count-between test a b n h below (λ i p q l. within i p q (omega arith)) (λ i p l. above i p (omega arith)) in
+    either (ltb n a)
+    (λ t.
+    let low = ltb-true n a t in
+    rw (below n low) (omega arith))
+    (λ t.
+    let from = ltb-false n a t in
+    either (ltb n b)
+    (λ u.
+    let inside = ltb-true n b u in
+    rw (within n from inside (omega arith)) (omega arith))
+    (λ u.
+    let past = ltb-false n b u in
+    rw (above n past (omega arith)) (omega arith)))
+
+-- so the records of a kind are those from its start to the next kind's
+pub kind-counted : (rs : List (List ℕ)) (kind start next : ℕ) → Grouped rs → KindStart rs kind start → KindStart rs (kind + 1) next
+    → (start ≤ next) × (length (ofKind kind rs) ≡ next - start)
+kind-counted rs kind start next grouped s n =
+    let least : (k a : ℕ) → KindStart rs k a → (i : ℕ) → a ≤ i → i < length rs → k ≤ kindOf (getD rs i []) = λ k a from i h l. either (ltb a i) (λ t. omega (arith, from .there (omega arith), grouped a i (ltb-true a i t) l)) (λ t. let same : i ≡ a = omega (arith, ltb-false a i t) in rw same (from .there (omega arith))) in
+    let order : start ≤ next = either (ltb next start) (λ t. absurd (omega (arith, s .before next (ltb-true next start t), n .there (omega (arith, ltb-true next start t, s .inside))))) (λ t. ltb-false next start t) in
+    let count = count-between (λ i. eqb (kindOf (getD rs i [])) kind) start next (length rs) order (λ i h. ne-eqb (kindOf (getD rs i [])) kind (λ e. omega (arith, s .before i h))) (λ i h l m. eq-eqb (kindOf (getD rs i [])) kind (omega (arith, n .before i l, least kind start s i h m))) (λ i h m. ne-eqb (kindOf (getD rs i [])) kind (λ e. omega (arith, least (kind + 1) next n i h m))) in
+    (order, length-ofKind kind rs ∙ count ∙ omega (arith, s .inside, n .inside))

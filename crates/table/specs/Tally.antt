@@ -1,5 +1,5 @@
 -- How the records of an image are counted in one pass.
-use Prim.Native.Nat.{ℕ, _+_, _*_, _<_}
+use Prim.Native.Nat.{ℕ, _+_, _*_, _≤_, _<_}
 use mathlib.Core.List.{List, []}
 use mathlib.Core.Bool.{cond}
 use mathlib.Core.Path.{_≡_}
@@ -20,3 +20,9 @@ slotted rs i n = countTo (λ k. eqb (slotOf (getD rs k [])) i) n
 pub record Tallied (rs : List (List ℕ)) (counts : List ℕ) : Type 0 where
   pub size : length counts ≡ 8
   pub right : (i : ℕ) → i < 8 → getD counts i 0 ≡ slotted rs i (length rs)
+
+-- all records before this number are of a lower kind, and the one there, where there is one, is not
+pub record KindStart (rs : List (List ℕ)) (kind start : ℕ) : Type 0 where
+  pub inside : start ≤ length rs
+  pub before : (k : ℕ) → k < start → kindOf (getD rs k []) < kind
+  pub there : start < length rs → kind ≤ kindOf (getD rs start [])

@@ -1,10 +1,13 @@
 // Refusal 7: too many of a kind. In a patch those taken out and those put in are counted apart.
 ghost use mathlib.Core.Path.{_≡_};
+ghost use mathlib.Core.Bool.{true};
 ghost use Prim.Native.Nat.{_≤_, _<_};
 ghost use lib.ListN.{length};
 ghost use Rattle.rules.specs.Blocks.{records, recordCount};
 ghost use Rattle.rules.specs.Records.{ofKind};
-ghost use Rattle.table.specs.Tally.{slotOf, Tallied};
+ghost use Rattle.rules.specs.Refusals.{accepted, recordsVerdict};
+ghost use Rattle.rules.specs.declared.Form.the-variants.{Table};
+ghost use Rattle.table.specs.Tally.{slotOf, Tallied, KindStart};
 use image::bytes::byte_at;
 use image::records::record_at;
 use image::records::record_count;
@@ -40,18 +43,28 @@ pub fn tally(image: &[u8]) -> [u32; 8]
     counts
 }
 
-// How many records an image has of a kind.
+// The number of the first record that is of at least this kind, or the number of records, by halving: kinds do not fall.
+fn kind_start(image: &[u8], kind: u32) -> usize
+    requires { ⌜ accepted (recordsVerdict Table (records (now image))) ≡ true ⌝ }
+    ensures { λ r. ⌜ KindStart (records (now (image .entry))) kind r ⌝ }
+{
+    let mut low: usize = 0;
+    let mut high = record_count(image);
+    while low < high {
+        let middle = low + (high - low) / 2;
+        if byte_at(record_at(image, middle), 0) < kind {
+            low = middle + 1;
+        } else {
+            high = middle;
+        }
+    }
+    low
+}
+
+// How many records of a kind an image has whose records are in order.
 pub fn count_kind(image: &[u8], kind: u32) -> usize
+    requires { ⌜ (accepted (recordsVerdict Table (records (now image))) ≡ true) × (kind ≤ 3) ⌝ }
     ensures { λ r. ⌜ (r ≡ length (ofKind kind (records (now (image .entry))))) × (r ≤ recordCount (now (image .entry))) ⌝ }
 {
-    let count = record_count(image);
-    let mut found: usize = 0;
-    let mut k: usize = 0;
-    while k < count {
-        if byte_at(record_at(image, k), 0) == kind {
-            found += 1;
-        }
-        k += 1;
-    }
-    found
+    kind_start(image, kind + 1) - kind_start(image, kind)
 }

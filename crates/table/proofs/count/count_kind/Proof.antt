@@ -1,76 +1,39 @@
--- The loop keeps the count of the records passed that are of the kind.
+-- The records of a kind are those from its start to the next kind's.
 use Prim.Native.Nat.{ℕ, _+_, _-_, _≤_}
-use mathlib.Core.Path.{_≡_, sym, ap, _∙_}
-use mathlib.Core.Bool.{Bool}
-use lib.Dec.{eqb}
-use mathlib.Core.Logic.{⊎-elim}
-use borrow.Author.Tests.{eq-eqb, ne-eqb}
-use Rattle.rules.specs.Numbers.{countTo}
-use Rattle.rules.specs.Blocks.{recordAt, recordCount}
-use Rattle.rules.specs.Records.{kindOf}
-use Rattle.rules.proofs.Numbers.{sumTo-zero, countTo-passes, countTo-fails}
-use Rattle.rules.proofs.Table.Kinds.{length-ofKind-upTo}
+use mathlib.Core.Path.{_≡_, sym}
 use native.Mathlib.Omega.{arith}
+use lib.ListN.{length}
+use Rattle.rules.specs.Blocks.{records, recordAt, recordCount}
+use Rattle.rules.specs.Records.{ofKind}
+use Rattle.rules.proofs.Numbers.{length-upTo}
+use Rattle.table.proofs.Counts.{kinds-grouped, kind-counted}
 use borrow.Author.Needs.{needs}
 use Rattle.table.proofs.count.count_kind.Statement.{statement}
 use Rattle.table.proofs.count.count_kind.Tie as tie
 
-abbrev Inv-loop : tie.InvT-loop
-Inv-loop image kind count found₀ k₀ found k = (k ≤ count) × (found ≤ k) × (found ≡ countTo (λ i. eqb (kindOf (recordAt image i)) kind) k)
+-- what the two starts say
+counted : (c : tie.After-kind-start2) → (c .kind-start2 .result ≤ c .before .kind-start .result) × (length (ofKind (c .before .before .before .args .kind) (records (c .before .before .before .args .image .now))) ≡ c .before .kind-start .result - c .kind-start2 .result)
+counted c =
+    kind-counted (records (c .before .before .before .args .image .now)) (c .before .before .before .args .kind) (c .kind-start2 .result) (c .before .kind-start .result)
+    (kinds-grouped (c .before .before .before .args .image .now) (λ k. c .before .before .shared-slice-known .given k .fits) (c .before .before .before .pre .0))
+    (c .kind-start2 .ensures) (c .before .kind-start .ensures)
 
-abbrev μ-loop : tie.MeasureT-loop
-μ-loop image kind count found₀ k₀ found k = count - k
+add-kind-start : tie.Need-add-kind-start
+add-kind-start c = search needs
 
-record-count-requires : tie.Need-record-count-requires Inv-loop μ-loop
-record-count-requires c κs = search needs
+kind-start-requires : tie.Need-kind-start-requires
+kind-start-requires c κs = search needs
 
-loop-holds : tie.Need-loop-holds Inv-loop μ-loop
-loop-holds c = (omega arith, omega arith, sym (sumTo-zero _))
+kind-start-requires-2 : tie.Need-kind-start-requires-2
+kind-start-requires-2 c κs = search needs
 
-record-at-requires : tie.Need-record-at-requires Inv-loop μ-loop
-record-at-requires c κs = search needs
+sub-result : tie.Need-sub-result
+sub-result c = omega (arith, counted c .0)
 
-byte-at-requires : tie.Need-byte-at-requires Inv-loop μ-loop
-byte-at-requires c κs = search needs
-
-add-found : tie.Need-add-found Inv-loop μ-loop
-add-found c = search needs
-
-add-k : tie.Need-add-k Inv-loop μ-loop
-add-k c = search needs
-
-loop-less : tie.Need-loop-less Inv-loop μ-loop
-loop-less c = search needs
-
-loop-again : tie.Need-loop-again Inv-loop μ-loop
-loop-again c =
-    let a = c .before .before .before .before .before .before .before .args in
-    let k = c .before .before .before .before .loop .k in
-    let test : ℕ → Bool = λ i. eqb (kindOf (recordAt (a .image .now) i)) (a .kind) in
-    let here : c .before .byte-at .result ≡ kindOf (recordAt (a .image .now) k) = c .before .byte-at .ensures .0 ∙ ap kindOf (c .before .before .record-at .ensures) in
-    ⊎-elim
-    (λ w. (omega arith, omega arith, w .1 ∙ ap (λ (n : ℕ). n + 1) (c .before .before .before .before .loop .inv .2) ∙ sym (countTo-passes test k (eq-eqb _ _ (sym here ∙ w .0 .taken)))))
-    (λ w. (omega arith, omega arith, w .1 ∙ c .before .before .before .before .loop .inv .2 ∙ sym (countTo-fails test k (ne-eqb _ _ (λ e. w .0 .left (here ∙ e))))))
-    (c .if1 .came)
-
-returns : tie.Need-returns Inv-loop μ-loop
-returns c =
-    let a = c .before .before .before .before .args in
-    let end : c .before .loop .k ≡ recordCount (a .image .now) = omega (arith, c .before .before .record-count .ensures) in
-    (c .before .loop .inv .2 ∙ ap (countTo (λ i. eqb (kindOf (recordAt (a .image .now) i)) (a .kind))) end ∙ sym (length-ofKind-upTo (a .kind) (recordAt (a .image .now)) (recordCount (a .image .now))), omega arith)
+returns : tie.Need-returns
+returns c = (sym (counted c .1), omega (arith, c .before .kind-start .ensures .inside, length-upTo (recordAt (c .before .before .before .args .image .now)) (recordCount (c .before .before .before .args .image .now))))
 
 pub count-kind-spec : {M : Type 1} → statement M
 count-kind-spec =
     tie.close
-    (tie.spec
-    Inv-loop
-    μ-loop
-    record-count-requires
-    loop-holds
-    record-at-requires
-    byte-at-requires
-    add-found
-    add-k
-    loop-less
-    loop-again
-    returns)
+    (tie.spec add-kind-start kind-start-requires kind-start-requires-2 sub-result returns)

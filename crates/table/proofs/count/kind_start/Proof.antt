@@ -1,0 +1,104 @@
+-- The loop keeps that all records below `low` are of a lower kind and that the one at `high` is not; the middle halves what is between.
+use Prim.Native.Nat.{ℕ, _+_, _-_, _/_, _≤_, _<_}
+use mathlib.Core.Path.{_≡_, ap, sym, _∙_}
+use mathlib.Core.List.{List, []}
+use native.Mathlib.Omega.{arith}
+use borrow.Author.Count.{below-more}
+use borrow.Author.Needs.{needs}
+use lib.ListN.{length, getD}
+use Rattle.rules.specs.Blocks.{records, recordAt, recordCount}
+use Rattle.rules.specs.Records.{kindOf}
+use Rattle.rules.proofs.Numbers.{length-upTo, getD-upTo}
+use Rattle.table.proofs.Counts.{kinds-grouped}
+use Rattle.table.proofs.count.kind_start.Statement.{statement}
+use Rattle.table.proofs.count.kind_start.Tie as tie
+
+-- the kind of record k
+abbrev kind-at : List ℕ → ℕ → ℕ
+kind-at image k = kindOf (getD (records image) k [])
+
+abbrev Inv-loop : tie.InvT-loop
+Inv-loop image kind low₀ high₀ low high = (low ≤ high) × (high ≤ recordCount image) × ((k : ℕ) → k < low → kind-at image k < kind) × (high < recordCount image → kind ≤ kind-at image high)
+
+abbrev μ-loop : tie.MeasureT-loop
+μ-loop image kind low₀ high₀ low high = high - low
+
+record-count-requires : tie.Need-record-count-requires Inv-loop μ-loop
+record-count-requires c κs = search needs
+
+loop-holds : tie.Need-loop-holds Inv-loop μ-loop
+loop-holds c = (omega arith, omega (arith, c .record-count .ensures), λ k h. absurd (omega arith), λ h. absurd (omega (arith, c .record-count .ensures)))
+
+sub-middle : tie.Need-sub-middle Inv-loop μ-loop
+sub-middle c = search needs
+
+add-middle : tie.Need-add-middle Inv-loop μ-loop
+add-middle c = search needs
+
+record-at-requires : tie.Need-record-at-requires Inv-loop μ-loop
+record-at-requires c κs = search needs
+
+byte-at-requires : tie.Need-byte-at-requires Inv-loop μ-loop
+byte-at-requires c κs = search needs
+
+add-low : tie.Need-add-low Inv-loop μ-loop
+add-low c = search needs
+
+loop-less : tie.Need-loop-less Inv-loop μ-loop
+loop-less c = search needs
+
+-- the byte that is read is the kind of the record
+read : (image : List ℕ) (k byte : ℕ) (fields : List ℕ) → k < recordCount image → fields ≡ recordAt image k → byte ≡ getD fields 0 0 → byte ≡ kind-at image k
+read image k byte fields h e b = b ∙ ap kindOf (e ∙ sym (getD-upTo (recordAt image) (recordCount image) k [] h))
+
+loop-again : tie.Need-loop-again Inv-loop μ-loop
+loop-again c =
+    let image = c .before .before .before .before .before .before .before .args .image .now in
+    let s = c .before .before .before .before .loop in
+    let middle = s .low + (s .high - s .low) / 2 in
+    let inside : middle < recordCount image = omega (arith, s .inv .1, c .before .before .before .loop-test .taken) in
+    let here = read image middle (c .before .byte-at .result) (c .before .before .record-at .result .now) inside (c .before .before .record-at .ensures) (c .before .byte-at .ensures .0) in
+    let lower : kind-at image middle < c .before .before .before .before .before .before .before .args .kind = omega (arith, here, c .if1 .taken) in
+    let grouped = kinds-grouped image (λ k. c .before .before .before .before .before .before .shared-slice-known .given k .fits) (c .before .before .before .before .before .before .before .pre) in
+    let many = length-upTo (recordAt image) (recordCount image) in
+    (omega (arith, c .before .before .before .loop-test .taken), s .inv .1, below-more (λ k. kind-at image k < c .before .before .before .before .before .before .before .args .kind) middle (λ k h. omega (arith, grouped k middle h (omega arith))) lower, s .inv .3)
+
+loop-less-2 : tie.Need-loop-less-2 Inv-loop μ-loop
+loop-less-2 c = search needs
+
+loop-again-2 : tie.Need-loop-again-2 Inv-loop μ-loop
+loop-again-2 c =
+    let image = c .before .before .before .before .before .before .before .args .image .now in
+    let s = c .before .before .before .before .loop in
+    let middle = s .low + (s .high - s .low) / 2 in
+    let inside : middle < recordCount image = omega (arith, s .inv .1, c .before .before .before .loop-test .taken) in
+    let here = read image middle (c .before .byte-at .result) (c .before .before .record-at .result .now) inside (c .before .before .record-at .ensures) (c .before .byte-at .ensures .0) in
+    (omega (arith, c .before .before .before .loop-test .taken), omega (arith, c .before .before .before .loop-test .taken, s .inv .1), s .inv .2, λ h. omega (arith, here, c .if1 .left))
+
+returns : tie.Need-returns Inv-loop μ-loop
+returns c =
+    let image = c .before .before .before .before .args .image .now in
+    let s = c .before .loop in
+    let same : s .high ≡ s .low = omega arith in
+    let many = length-upTo (recordAt image) (recordCount image) in
+    let there : s .low < recordCount image → c .before .before .before .before .args .kind ≤ kind-at image (s .low) = rw same at (s .inv .3) in
+    record { inside = omega arith; before = s .inv .2; there = λ h. there (omega arith) }
+
+pub kind-start-spec : {M : Type 1} → statement M
+kind-start-spec =
+    tie.close
+    (tie.spec
+    Inv-loop
+    μ-loop
+    record-count-requires
+    loop-holds
+    sub-middle
+    add-middle
+    record-at-requires
+    byte-at-requires
+    add-low
+    loop-less
+    loop-again
+    loop-less-2
+    loop-again-2
+    returns)
