@@ -59,13 +59,6 @@ table-long image table =
     let f = frame-of Table image (accepted-first (frameVerdict Table image) (orElse (recordsVerdict Table (records image)) (referenceRefusal (records image))) table) in
     omega (arith, f .whole, f .not-too-many)
 
--- the records of an accepted table are accepted
-pub records-accepted : (base : List ℕ) → accepted (tableVerdict base) ≡ true → accepted (recordsVerdict Table (records base)) ≡ true
-unfolding tableVerdict
-records-accepted base table =
-    accepted-first (recordsVerdict Table (records base)) (referenceRefusal (records base))
-    (accepted-second (frameVerdict Table base) (orElse (recordsVerdict Table (records base)) (referenceRefusal (records base))) table)
-
 -- the records of an accepted table are in the image's order
 pub base-rises : (base : List ℕ) → accepted (tableVerdict base) ≡ true → Rises imageKey (records base)
 base-rises base table =

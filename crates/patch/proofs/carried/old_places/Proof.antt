@@ -7,6 +7,7 @@ use native.Mathlib.Omega.{arith}
 use borrow.Author.Needs.{needs}
 use lib.Dec.{eqb}
 use lib.ListN.{length, getD}
+use Rattle.table.proofs.Counts.{records-accepted}
 use Rattle.rules.specs.declared.Form.the-variants.{Table}
 use Rattle.rules.specs.Numbers.{Bytes, lowest}
 use Rattle.rules.specs.Blocks.{records}
@@ -18,7 +19,7 @@ use Rattle.table.specs.Numbers.{Directory, NumbersRead, placeAmong}
 use Rattle.table.proofs.Places.{tasks-directory, place-in}
 use Rattle.preempt.specs.Bits.{column}
 use Rattle.preempt.proofs.Columns.{column-none, column-filled}
-use Rattle.patch.proofs.Accepted.{as-many, records-accepted}
+use Rattle.patch.proofs.Accepted.{as-many}
 use Rattle.patch.proofs.carried.old_places.Statement.{statement}
 use Rattle.patch.proofs.carried.old_places.Tie as tie
 
@@ -33,10 +34,10 @@ abbrev μ-loop : tie.MeasureT-loop
 μ-loop base ids count first known base-ids places₀ i₀ places i = count - i
 
 count-kind-requires : tie.Need-count-kind-requires Inv-loop μ-loop
-count-kind-requires c κs = search needs
+count-kind-requires c κs = (records-accepted (c .before .before .args .base .now) (c .before .before .pre .0), omega arith)
 
 count-kind-requires-2 : tie.Need-count-kind-requires-2 Inv-loop μ-loop
-count-kind-requires-2 c κs = search needs
+count-kind-requires-2 c κs = (records-accepted (c .before .before .before .args .base .now) (c .before .before .before .pre .0), omega arith)
 
 numbers-from-requires : tie.Need-numbers-from-requires Inv-loop μ-loop
 numbers-from-requires c κs =

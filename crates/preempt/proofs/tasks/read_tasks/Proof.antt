@@ -4,6 +4,7 @@ use mathlib.Core.List.{List}
 use mathlib.Core.Path.{_≡_, ap, _∙_}
 use native.Mathlib.Omega.{arith}
 use borrow.Author.Needs.{needs}
+use Rattle.table.proofs.Counts.{records-accepted}
 use Rattle.rules.specs.declared.Task.{Task}
 use Rattle.rules.specs.Records.{taskOf, taskCount, taskAt, periodIn}
 use Rattle.rules.specs.Blocks.{records, recordAt}
@@ -62,10 +63,10 @@ read c =
     c .task-of .ensures ∙ ap taskOf (c .before .record-at .ensures ∙ ap (λ (n : ℕ). recordAt image (n + i)) (c .before .before .before .before .before .count-kind .ensures .0) ∙ task-record image (c .before .before .before .before .before .before .shared-slice-known .given) (c .before .before .before .before .before .before .before .pre) i inside)
 
 count-kind-requires : tie.Need-count-kind-requires Inv-loop μ-loop
-count-kind-requires c κs = search needs
+count-kind-requires c κs = (records-accepted (c .before .args .image .now) (c .before .pre), omega arith)
 
 count-kind-requires-2 : tie.Need-count-kind-requires-2 Inv-loop μ-loop
-count-kind-requires-2 c κs = search needs
+count-kind-requires-2 c κs = (records-accepted (c .before .before .args .image .now) (c .before .before .pre), omega arith)
 
 loop-holds : tie.Need-loop-holds Inv-loop μ-loop
 loop-holds c =

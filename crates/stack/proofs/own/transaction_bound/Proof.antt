@@ -1,4 +1,5 @@
 -- The loop keeps the bounds of the transactions passed and their sum.
+use Rattle.table.proofs.Counts.{records-accepted}
 use Rattle.preempt.proofs.Accepted.{shape}
 use Prim.Native.Nat.{ℕ, _*_, _-_, _≤_, _<_}
 use mathlib.Core.List.{[]}
@@ -21,7 +22,7 @@ abbrev μ-loop : tie.MeasureT-loop
 μ-loop image numbers rows sizes order count transactions total₀ t₀ total t = transactions - t
 
 count-kind-requires : tie.Need-count-kind-requires Inv-loop μ-loop
-count-kind-requires c κs = search needs
+count-kind-requires c κs = (records-accepted (c .before .before .before .before .before .args .image .now) (c .before .before .before .before .before .pre .0), omega arith)
 
 loop-holds : tie.Need-loop-holds Inv-loop μ-loop
 loop-holds c =
