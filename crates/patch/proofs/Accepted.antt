@@ -1,8 +1,8 @@
 -- What an accepted patch gives: its records in order, all that are taken out before all that are put in, and not too many of these.
-use Prim.Native.Nat.{ℕ, zero, suc, _+_, _*_, _-_, _≤_, _<_}
+use Prim.Native.Nat.{ℕ, zero, suc, _+_, _≤_, _<_}
 use mathlib.Core.List.{List, []}
 use mathlib.Core.Bool.{Bool, true, false, cond, _&&_, not}
-use mathlib.Core.Path.{_≡_, sym, ap, _∙_}
+use mathlib.Core.Path.{_≡_, sym, _∙_}
 use native.Mathlib.Omega.{arith}
 use borrow.Author.Tests.{eqb-true, eqb-false, eq-eqb, ltb-true, ltb-false, not-true, not-false}
 use lib.ListN.{length, getD}
@@ -10,7 +10,7 @@ use lib.Dec.{eqb, ltb}
 use Rattle.rules.specs.declared.Form.the-variants.{Table, Patch}
 use Rattle.rules.specs.Numbers.{Bytes, lowest, sumTo, countTo, between}
 use Rattle.rules.specs.Blocks.{records, recordAt, recordCount}
-use Rattle.rules.specs.Records.{kindOf, numberOf, secondOf, wayOf, key, imageKey, zeroBytes, formWrong, mostOf, countOf, tooMany}
+use Rattle.rules.specs.Records.{kindOf, wayOf, key, imageKey, zeroBytes, formWrong, mostOf, countOf, tooMany}
 use Rattle.rules.specs.declared.Verdict.{Verdict}
 use Rattle.rules.specs.Refusals.{accepted, orElse, refuseIf, orderWrong, formRefusal, orderRefusal, rangeRefusal, countRefusal, referenceRefusal, frameVerdict, recordsVerdict, tableVerdict, patchVerdict}
 use Rattle.rules.proofs.Numbers.{either, length-upTo, getD-upTo, lowest-passes, lowest-below}

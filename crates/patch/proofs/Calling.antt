@@ -1,8 +1,8 @@
 -- A patch call by its ways out: refused up to 9, a broken outcome, too short a map or room, and accepted; and that this leaves no choice.
-use Prim.Native.Nat.{ℕ, _*_, _≤_}
+use Prim.Native.Nat.{ℕ}
 use mathlib.Core.List.{List, []}
 use mathlib.Core.Bool.{Bool, true, false, cond, _||_, not}
-use mathlib.Core.Path.{_≡_, refl, ap, sym, _∙_}
+use mathlib.Core.Path.{_≡_, ap, sym, _∙_}
 use native.Mathlib.Omega.{arith}
 use borrow.Author.Tests.{ne-eqb, eqb-true}
 use lib.ListN.{length, take}
@@ -14,7 +14,7 @@ use Rattle.rules.specs.declared.Patched.{Patched}
 use Rattle.rules.specs.Blocks.{records, recordAt, imageOf}
 use Rattle.rules.specs.Patches.{outcome, touchedCount, patchedMap}
 use Rattle.rules.specs.Refusals.{accepted, fine, refusal, orElse, tableVerdict, patchVerdict, absentRefusal, broken, outcomeRefusal, shortRefusal}
-use Rattle.rules.specs.Calls.{over, outcomeLength, patchCallVerdict, patchAnswer, roomAfter, patchedAfter, offending}
+use Rattle.rules.specs.Calls.{over, outcomeLength, patchCallVerdict, offending}
 use Rattle.rules.proofs.Numbers.{either}
 use Rattle.rules.proofs.Refusals.{accepted-first, accepted-second}
 use Rattle.rules.proofs.Image.Written.{length-imageOf, records-imageOf}

@@ -1,19 +1,19 @@
 -- The new map from what is read is the map after the patch: touched tasks, old places and decisions are the table's.
 use Prim.Native.Nat.{ℕ, _≤_, _<_}
 use mathlib.Core.List.{List, []}
-use mathlib.Core.Bool.{Bool, cond, _||_}
-use mathlib.Core.Path.{_≡_, ap, sym, _∙_}
+use mathlib.Core.Bool.{Bool, cond}
+use mathlib.Core.Path.{_≡_, ap, _∙_}
 use native.Mathlib.Omega.{arith}
 use lib.ListN.{length, getD}
-use Rattle.rules.specs.Numbers.{some, countTo, sumTo}
-use Rattle.rules.specs.Records.{numberOf, secondOf, tasks, taskCount, taskAt, placeOf}
-use Rattle.rules.specs.Preempt.{cell, decided, mapFrom}
-use Rattle.rules.specs.Patches.{outcome, concerns, touched, touchedCount, oldPlace, carried, patchedMap}
+use Rattle.rules.specs.Numbers.{some, countTo}
+use Rattle.rules.specs.Records.{tasks, taskCount, taskAt, placeOf}
+use Rattle.rules.specs.Preempt.{mapFrom}
+use Rattle.rules.specs.Patches.{outcome, touched, touchedCount, oldPlace, carried, patchedMap}
 use Rattle.rules.proofs.Numbers.{sumTo-ext}
 use Rattle.rules.proofs.Maps.{map-ext}
 use Rattle.rules.proofs.Table.Shape.{Shape}
 use Rattle.preempt.specs.Bits.{bitAt, column}
-use Rattle.preempt.specs.Tasks.{TasksRead, barredMap, decidedBy}
+use Rattle.preempt.specs.Tasks.{TasksRead, barredMap}
 use Rattle.preempt.specs.declared.tasks.Tasks.{Tasks}
 use Rattle.preempt.proofs.Columns.{column-at}
 use Rattle.preempt.proofs.Reading.{decided-read}

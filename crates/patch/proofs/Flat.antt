@@ -1,12 +1,12 @@
 -- Records that lie one after another in a list of bytes: one more is written behind those that are there.
 use Prim.Native.Nat.{ℕ, _+_, _-_, _≤_}
 use mathlib.Core.List.{List, [], _∷_, _++_, append-assoc, append-nil}
-use mathlib.Core.Path.{_≡_, refl, ap, sym, _∙_}
+use mathlib.Core.Path.{_≡_, ap, sym, _∙_}
 use native.Mathlib.Nat.{zero-add, suc-add}
 use native.Mathlib.Omega.{arith}
 use borrow.Rule.Slice.PartMut.{putMid}
 use lib.ListN.{length, set, take, drop, length-append, length-take, length-drop}
-use lib.Seq.{length-take-le, take-at, drop-drop, drop-length, take-append-add, set-append-left}
+use lib.Seq.{length-take-le, take-at, drop-drop, drop-length, set-append-left}
 use Rattle.rules.specs.Blocks.{joined}
 use Rattle.rules.specs.Calls.{over}
 use Rattle.patch.specs.Merge.{inAll}

@@ -1,7 +1,7 @@
 -- A run of calls that meet their promise: whoever makes them and goes on from what each accepted one left ends where working it out afresh ends.
 use Prim.Native.Nat.{ℕ}
 use mathlib.Core.List.{List, [], _∷_}
-use mathlib.Core.Bool.{true, false}
+use mathlib.Core.Bool.{true}
 use mathlib.Core.Path.{_≡_, refl, ap, sym, _∙_}
 use borrow.Author.Tests.{eq-eqb}
 use lib.ListN.{take}

@@ -1,13 +1,13 @@
 -- Records that lie one after another are cut into those records again, so what is written of them is their image.
-use Prim.Native.Nat.{ℕ, _+_, _*_, _/_, _%_, _≤_}
-use mathlib.Core.List.{List, [], _++_}
-use mathlib.Core.Bool.{Bool, true, false, cond, _&&_}
+use Prim.Native.Nat.{ℕ, _*_, _/_, _%_, _≤_}
+use mathlib.Core.List.{List, []}
+use mathlib.Core.Bool.{false}
 use mathlib.Core.Path.{_≡_, refl, ap, sym, _∙_}
 use native.Mathlib.Omega.{arith}
 use borrow.Author.Tests.{eq-eqb, le-leb, leb-true, leb-false}
 use lib.ListN.{length, getD, take, drop, length-append, length-drop}
 use lib.Seq.{take-at}
-use lib.Dec.{leb, eqb}
+use lib.Dec.{leb}
 use Rattle.rules.specs.declared.Form.the-variants.{Table}
 use Rattle.rules.specs.Numbers.{upTo}
 use Rattle.rules.specs.Blocks.{blocksFor, joined, imageOf}
@@ -18,7 +18,7 @@ use Rattle.rules.proofs.Image.Parts.{Records, length-joined, part-joined}
 use Rattle.rules.proofs.Image.Written.{length-imageOf}
 use Rattle.rules.proofs.Table.Kinds.{upTo-elements}
 use Rattle.rules.proofs.Patch.Valid.{valid-few, valid-imageOf}
-use Rattle.image.specs.Write.{cut, blocksOf, writable, writtenLength, writtenRoom}
+use Rattle.image.specs.Write.{cut, writable, writtenLength, writtenRoom}
 use Rattle.patch.specs.Written.{ImageWritten}
 
 -- no bytes are no table

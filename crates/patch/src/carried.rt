@@ -6,7 +6,7 @@ ghost use lib.ListN.{length, getD};
 ghost use Rattle.rules.specs.Blocks.{records};
 ghost use Rattle.rules.specs.Records.{tasks as Records·tasks, placeOf};
 ghost use Rattle.rules.specs.Preempt.{cell, rowFrom, mapFrom};
-ghost use Rattle.rules.specs.Patches.{outcome, touchedCount, patchedMap};
+ghost use Rattle.rules.specs.Patches.{outcome};
 ghost use Rattle.rules.specs.Refusals.{accepted, tableVerdict};
 ghost use Rattle.preempt.specs.Bits.{column};
 ghost use Rattle.patch.specs.Carried.{cellCarried, carriedBy, MapCarried};

@@ -1,6 +1,6 @@
 -- The first record that is not met is refused where it is taken out; else nothing is.
 use mathlib.Core.Path.{_≡_, ap, sym, _∙_}
-use Prim.Native.Nat.{ℕ, _<_}
+use Prim.Native.Nat.{_<_}
 use native.Mathlib.Omega.{arith}
 use Rattle.rules.specs.declared.Form.the-variants.{Patch}
 use Rattle.rules.specs.Blocks.{recordAt, recordCount}

@@ -1,5 +1,5 @@
 -- One case for each way out: refused before there is an outcome, a broken outcome, too short a map or room, and accepted.
-use Prim.Native.Nat.{ℕ, _≤_}
+use Prim.Native.Nat.{ℕ}
 use mathlib.Core.List.{List}
 use mathlib.Core.Bool.{true, false, _||_}
 use mathlib.Core.Path.{_≡_, refl, ap, sym, _∙_}

@@ -1,7 +1,6 @@
 -- Only the checks that need no outcome give the number 9, so their verdict decides.
 use mathlib.Core.Path.{_≡_, ap, sym, _∙_}
 use mathlib.Core.Bool.{true, false}
-use Prim.Native.Nat.{ℕ}
 use borrow.Author.Tests.{eq-eqb, ne-eqb}
 use lib.Dec.{eqb}
 use Rattle.rules.specs.declared.Verdict.{Verdict}

@@ -1,5 +1,5 @@
 -- A cell with a touched task is decided, and any other is looked up.
-use mathlib.Core.Path.{_≡_, sym, _∙_}
+use mathlib.Core.Path.{sym, _∙_}
 use Rattle.patch.specs.Carried.{cellCarried}
 use borrow.Author.Needs.{needs}
 use Rattle.patch.proofs.carried.is_carried_set.Statement.{statement}

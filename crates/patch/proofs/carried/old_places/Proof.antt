@@ -1,21 +1,20 @@
 -- The base's ids are listed once, and the loop keeps the places of the ids passed.
-use Prim.Native.Nat.{ℕ, _-_, _≤_, _<_}
-use mathlib.Core.Path.{_≡_, ap, sym, _∙_}
-use mathlib.Core.List.{List, []}
+use Prim.Native.Nat.{ℕ, _-_, _≤_}
+use mathlib.Core.Path.{_≡_, ap, _∙_}
+use mathlib.Core.List.{List}
 use mathlib.Core.Bool.{true}
 use native.Mathlib.Omega.{arith}
 use borrow.Author.Needs.{needs}
 use lib.Dec.{eqb}
 use lib.ListN.{length, getD}
 use Rattle.table.proofs.Counts.{records-accepted}
-use Rattle.rules.specs.declared.Form.the-variants.{Table}
-use Rattle.rules.specs.Numbers.{Bytes, lowest}
+use Rattle.rules.specs.Numbers.{Bytes}
 use Rattle.rules.specs.Blocks.{records}
-use Rattle.rules.specs.Records.{numberOf, transactions, tasks, taskCount, placeOf}
-use Rattle.rules.specs.Refusals.{accepted, recordsVerdict, tableVerdict}
+use Rattle.rules.specs.Records.{transactions, tasks, taskCount, placeOf}
+use Rattle.rules.specs.Refusals.{accepted, tableVerdict}
 use Rattle.rules.proofs.Numbers.{lowest-le}
 use Rattle.rules.proofs.Patch.Valid.{valid-of, valid-few, valid-few-tasks}
-use Rattle.table.specs.Numbers.{Directory, NumbersRead, placeAmong}
+use Rattle.table.specs.Numbers.{Directory, NumbersRead}
 use Rattle.table.proofs.Places.{tasks-directory, place-in}
 use Rattle.preempt.specs.Bits.{column}
 use Rattle.preempt.proofs.Columns.{column-none, column-filled}
