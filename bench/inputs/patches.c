@@ -1,0 +1,28 @@
+/* What patches take out and put in, each as a table of its records. */
+#include "table.h"
+
+/* One task to put into a base: a new id, and otherwise like one of the base's tasks. */
+struct table with_task(const struct table *base)
+{
+    struct table in = {.tasks = 1};
+    in.task[0] = base->task[random_below((uint32_t)base->tasks)];
+    in.task[0].id += 1;
+    return in;
+}
+
+/* Takes every so many of the base's tasks and pairs out, and puts them back with another size or sort. */
+void change_tasks(const struct table *base, size_t every, struct table *out, struct table *in)
+{
+    *out = (struct table){.tasks = 0};
+    *in = *out;
+    for (size_t i = random_below((uint32_t)every); i < base->tasks; i += every) {
+        out->task[out->tasks++] = base->task[i];
+        in->task[in->tasks] = base->task[i];
+        in->task[in->tasks++].size = random_from(1, 65535);
+    }
+    for (size_t k = random_below((uint32_t)every); k < base->pairs; k += every) {
+        out->pair[out->pairs++] = base->pair[k];
+        in->pair[in->pairs] = base->pair[k];
+        in->pair[in->pairs++].sort = 1 - base->pair[k].sort;
+    }
+}

@@ -1,0 +1,24 @@
+/* The calls that are measured. */
+#ifndef CALLS_H
+#define CALLS_H
+
+#include "side.h"
+
+typedef void call(const struct side *side, const struct input *input, struct answer *answer);
+
+call call_verdict;
+call call_map;
+call call_bounds;
+call call_bare_bounds;
+call call_patch_verdict;
+call call_patch;
+
+void lend_own_map(struct input *input);
+uint64_t chains_opened(const struct input *input, uint64_t allowed);
+
+enum { VERDICT, MAP, BOUNDS, PATCH_VERDICT, PATCH, CALLS };
+
+extern call *const calls[CALLS];
+extern const char *const call_names[CALLS];
+
+#endif

@@ -1,0 +1,24 @@
+/* One input: an image with the map that is lent for its bounds, and for a patch call the patch. */
+#ifndef INPUT_H
+#define INPUT_H
+
+#include <stdbool.h>
+#include <stddef.h>
+#include <stdint.h>
+#include <stdio.h>
+
+enum { MOST_IMAGE_BYTES = 45 * 512, MOST_CLASS_BYTES = 80 };
+
+struct input {
+    char kind, class[MOST_CLASS_BYTES];
+    size_t bytes, patch_bytes;
+    uint8_t image[MOST_IMAGE_BYTES], patch[MOST_IMAGE_BYTES];
+    bool is_map_lent;
+    uint64_t map[64];
+};
+
+bool read_input(FILE *file, struct input *input);
+
+bool takes_out(const struct input *input);
+
+#endif

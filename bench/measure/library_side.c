@@ -1,0 +1,29 @@
+/* The calls of libsiodlomil.a. */
+#include <string.h>
+
+#include "side.h"
+#include "siodlomil.h"
+
+/* Fills the answer's rows. */
+static void map(struct image image, size_t row_count, struct answer *answer)
+{
+    siodlomil_map_answer verdict = siodlomil_map(image.bytes, image.length, answer->rows, row_count);
+    memcpy(answer->numbers, &verdict, sizeof verdict);
+}
+
+/* Finds the bounds over a map, with the chain in the answer's ids. */
+static void bounds(struct image image, const uint64_t *rows, struct answer *answer)
+{
+    siodlomil_bounds_answer found = siodlomil_bounds(image.bytes, image.length, rows, 64, answer->ids, 64);
+    memcpy(answer->numbers, &found, sizeof found);
+}
+
+/* Applies a patch, with the outcome in the answer's room and rows. */
+static void patch(struct image base, struct image patch, const uint64_t *rows, struct answer *answer)
+{
+    siodlomil_patch_answer patched = siodlomil_patch(base.bytes, base.length, patch.bytes, patch.length, rows, 64,
+                                                     answer->room, sizeof answer->room, answer->rows, 64);
+    memcpy(answer->numbers, &patched, sizeof patched);
+}
+
+const struct side library_side = {.name = "library", .map = map, .bounds = bounds, .patch = patch};

@@ -1,0 +1,34 @@
+/* The calls of the plain rendering. It is compiled with plain.c by each compiler, under the names that bench/run gives. */
+#include <string.h>
+
+#include "../plain.h"
+#include "side.h"
+
+/* Fills the answer's rows. */
+static void map(struct image image, size_t row_count, struct answer *answer)
+{
+    struct plain_verdict verdict = plain_map(image.bytes, image.length, answer->rows, row_count);
+    memcpy(answer->numbers, &verdict, sizeof verdict);
+}
+
+/* Finds the bounds over a map, with the chain in the answer's ids. */
+static void bounds(struct image image, const uint64_t *rows, struct answer *answer)
+{
+    struct plain_bounds found = plain_bounds(image.bytes, image.length, rows, 64, answer->ids, 64);
+    memcpy(answer->numbers, &found, sizeof found);
+}
+
+/* Applies a patch, with the outcome in the answer's room and rows. */
+static void patch(struct image base, struct image patch, const uint64_t *rows, struct answer *answer)
+{
+    struct plain_patched patched = plain_patch(base.bytes, base.length, patch.bytes, patch.length, rows, 64,
+                                               answer->room, sizeof answer->room, answer->rows, 64);
+    memcpy(answer->numbers, &patched, sizeof patched);
+}
+
+const struct side SIDE = {.name = NAME,
+                          .map = map,
+                          .bounds = bounds,
+                          .patch = patch,
+                          .chains_opened = &plain_chains_opened,
+                          .chains_allowed = &plain_chains_allowed};

@@ -1,0 +1,139 @@
+/* The tables of the report. */
+#include "report.h"
+
+#include <stdlib.h>
+#include <string.h>
+
+/* Adds the figure of one more input. */
+void add(struct figures *figures, double figure)
+{
+    if (figures->count < MOST_INPUTS)
+        figures->figure[figures->count++] = figure;
+}
+
+/* Keeps the instructions of one call, where the class, the call and the side are there. */
+static void keep_instructions(const char *name, const char *call_name, const char *side_name, double number,
+                              struct class *classes, size_t count)
+{
+    for (size_t c = 0; c < count; c++)
+        for (size_t made = 0; made < CALLS; made++)
+            for (size_t side = 0; side < side_count; side++)
+                if (strcmp(classes[c].name, name) == 0 && strcmp(call_names[made], call_name) == 0 &&
+                    strcmp(sides[side]->name, side_name) == 0)
+                    classes[c].instructions[made][side] = number;
+}
+
+/* Reads the instructions of the calls, a line for each: class, call, side and number with tabs between. */
+void read_instructions(FILE *file, struct class *classes, size_t count)
+{
+    char line[256];
+    while (fgets(line, sizeof line, file) != NULL) {
+        const char *name = strtok(line, "\t"), *call_name = strtok(NULL, "\t"), *side_name = strtok(NULL, "\t");
+        const char *number = strtok(NULL, "\n");
+        if (number != NULL)
+            keep_instructions(name, call_name, side_name, atof(number), classes, count);
+    }
+}
+
+/* Which of two figures is larger, as sorting asks it. */
+static int compare(const void *a, const void *b)
+{
+    double x = *(const double *)a, y = *(const double *)b;
+    return (x > y) - (x < y);
+}
+
+/* The figure that has this part of all others below it. */
+static double at_part(const struct figures *figures, double part)
+{
+    struct figures sorted = *figures;
+    if (sorted.count == 0)
+        return 0;
+    qsort(sorted.figure, sorted.count, sizeof sorted.figure[0], compare);
+    return sorted.figure[(size_t)(part * (double)(sorted.count - 1))];
+}
+
+/* The middle figure. */
+static double median(const struct figures *figures)
+{
+    return at_part(figures, 0.5);
+}
+
+/* The largest figure. */
+static double worst(const struct figures *figures)
+{
+    return at_part(figures, 1);
+}
+
+/* Prints the ratios of one call on a class by one side: time, median and worst, and instructions. */
+static void print_ratios(const struct class *class, size_t made, size_t side)
+{
+    const double *instructions = class->instructions[made];
+    if (side >= side_count) {
+        printf("| skipped | skipped | skipped ");
+        return;
+    }
+    printf("| %.2f | %.2f ", median(&class->ratio[made][side]), worst(&class->ratio[made][side]));
+    if (instructions[side] > 0)
+        printf("| %.2f ", instructions[LIBRARY] / instructions[side]);
+    else
+        printf("| - ");
+}
+
+/* Prints the figures of one call on a class. */
+static void print_call(const struct class *class, size_t made)
+{
+    printf("| %s | %s | %zu ", class->name, call_names[made], class->seconds[made][LIBRARY].count);
+    printf("| %.1f ", 1e6 * median(&class->seconds[made][LIBRARY]));
+    print_ratios(class, made, GCC);
+    print_ratios(class, made, CLANG);
+    printf("|\n");
+}
+
+/* Prints a row for each class and call. */
+void print_calls(const struct class *classes, size_t count)
+{
+    printf("| Inputs | Call | Number | Microseconds | By gcc: median | worst | instructions "
+           "| By clang: median | worst | instructions |\n");
+    printf("|---|---|---|---|---|---|---|---|---|---|\n");
+    for (size_t c = 0; c < count; c++)
+        for (size_t made = 0; made < CALLS; made++)
+            if (classes[c].seconds[made][LIBRARY].count > 0)
+                print_call(&classes[c], made);
+}
+
+/* Prints the chain of one class beside Cliquer's. */
+static void print_clique(const struct class *class)
+{
+    printf("| %.3f ", 1e3 * median(&class->chain_seconds));
+    if (class->clique_ratio.count == 0)
+        printf("| over 2 s | - | - |\n");
+    else
+        printf("| %.3f | %.2f | %.2f |\n", 1e3 * median(&class->clique_seconds), median(&class->clique_ratio),
+               worst(&class->clique_ratio));
+}
+
+/* Prints the searches of one class. */
+static void print_chain(const struct class *class, uint64_t limit, bool has_clique)
+{
+    printf("| %s | %zu of %zu ", class->name, class->chains.count, class->tables);
+    if (class->chains.count == 0) {
+        printf("| over %llu | - | - | - | - | - |\n", (unsigned long long)limit);
+        return;
+    }
+    printf("| %.0f | %.0f ", median(&class->chains), worst(&class->chains));
+    if (has_clique)
+        print_clique(class);
+    else
+        printf("| %.3f | skipped | skipped | skipped |\n", 1e3 * median(&class->chain_seconds));
+}
+
+/* Prints what the searches opened that did not open more chains than the limit, and the chain beside Cliquer's. */
+void print_chains(const struct class *classes, size_t count, uint64_t limit, bool has_clique)
+{
+    printf("| Inputs | Searches timed | Chains opened: median | worst | Chain, ms | Cliquer, ms "
+           "| Library by Cliquer: median | worst |\n");
+    printf("|---|---|---|---|---|---|---|---|\n");
+    for (size_t c = 0; c < count; c++)
+        if (classes[c].tables > 0)
+            print_chain(&classes[c], limit, has_clique);
+}

@@ -1,0 +1,11 @@
+/* The plain rendering is one translation unit, as the library's archive is one object: the compiler sees all of it. */
+#include "plain.h"
+
+#include <stdbool.h>
+#include <string.h>
+
+#include "plain/image.c"
+#include "plain/table.c"
+#include "plain/map.c"
+#include "plain/stack.c"
+#include "plain/patch.c"

@@ -1,0 +1,35 @@
+/* The calls of the library in plain C: the yardstick that bench/run measures the library by. */
+#ifndef PLAIN_H
+#define PLAIN_H
+
+#include <stddef.h>
+#include <stdint.h>
+
+/* What a map call answers: refusal number and place, or 0 and 0. */
+struct plain_verdict {
+    uint32_t number, place;
+};
+
+/* What a bound call answers. */
+struct plain_bounds {
+    uint32_t number, place, tasks, chain, path, transactions, levels, length;
+};
+
+/* What a patch call answers. */
+struct plain_patched {
+    uint32_t number, place, touched, length;
+};
+
+/* The chains that the searches have opened, and how many they may open: a search past it ends early with a wrong answer. */
+extern uint64_t plain_chains_opened, plain_chains_allowed;
+
+struct plain_verdict plain_map(const uint8_t *image, size_t bytes, uint64_t *rows, size_t row_count);
+
+struct plain_bounds plain_bounds(const uint8_t *image, size_t bytes, const uint64_t *map, size_t row_count,
+                                 uint16_t *ids, size_t id_count);
+
+struct plain_patched plain_patch(const uint8_t *base, size_t base_bytes, const uint8_t *patch, size_t patch_bytes,
+                                 const uint64_t *map, size_t row_count, uint8_t *room, size_t room_bytes,
+                                 uint64_t *carried, size_t carried_count);
+
+#endif

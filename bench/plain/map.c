@@ -1,0 +1,114 @@
+/* Who may preempt whom: the tasks read once, the forbidden pairs, the decision for two tasks, and the map call. */
+
+/* Each field of the tasks by their places, and the period of each task's transaction. */
+struct tasks {
+    size_t count;
+    uint32_t ids[64], transactions[64], priorities[64], offsets[64], jitters[64], responses[64], sizes[64], periods[64];
+};
+
+/* The period of the transaction with this number, or 0 where it is not listed. */
+static uint32_t period_in(const uint8_t *image, size_t count, uint32_t number)
+{
+    for (size_t k = 0; k < count; k++) {
+        const uint8_t *fields = record_at(image, k);
+        if (two_bytes(fields + 2) == number)
+            return four_bytes(fields + 8);
+    }
+    return 0;
+}
+
+/* Reads the tasks of an accepted table. */
+static void read_tasks(const uint8_t *image, const struct sizes *sizes, struct tasks *tasks)
+{
+    tasks->count = sizes->tasks;
+    for (size_t i = 0; i < sizes->tasks; i++) {
+        const uint8_t *fields = record_at(image, sizes->transactions + i);
+        uint32_t jitter = four_bytes(fields + 12);
+        tasks->ids[i] = two_bytes(fields + 2);
+        tasks->transactions[i] = two_bytes(fields + 4);
+        tasks->priorities[i] = two_bytes(fields + 6);
+        tasks->offsets[i] = four_bytes(fields + 8);
+        tasks->jitters[i] = jitter == 4294967295 ? 0 : jitter;
+        tasks->responses[i] = four_bytes(fields + 16);
+        tasks->sizes[i] = two_bytes(fields + 20);
+        tasks->periods[i] = period_in(image, sizes->transactions, tasks->transactions[i]);
+    }
+}
+
+/* Sets cell j of row i where a pair forbids that the task at place i is preempted by the one at place j. */
+static void read_barred(const uint8_t *image, const struct sizes *sizes, const struct tasks *tasks, uint64_t rows[64])
+{
+    memset(rows, 0, 64 * sizeof rows[0]);
+    for (size_t k = 0; k < sizes->pairs; k++) {
+        const uint8_t *fields = record_at(image, sizes->transactions + sizes->tasks + k);
+        size_t first = place_of(tasks->ids, tasks->count, two_bytes(fields + 2));
+        size_t second = place_of(tasks->ids, tasks->count, two_bytes(fields + 4));
+        rows[first] |= (uint64_t)1 << second;
+        if (fields[1] == 1)
+            rows[second] |= (uint64_t)1 << first;
+    }
+}
+
+/* Whether bit j of a number is set. */
+static bool is_set(uint64_t bits, size_t j)
+{
+    return (bits >> j) % 2 == 1;
+}
+
+/* The difference of two numbers, or 0 where the second is larger. */
+static uint32_t excess(uint32_t a, uint32_t b)
+{
+    return a < b ? 0 : a - b;
+}
+
+/* The distance from the more urgent task's offset to the less urgent one's, by equation (7). */
+static uint32_t distance(uint32_t period, uint32_t lower, uint32_t upper)
+{
+    if (period == 0)
+        return lower;
+    return (uint32_t)(((uint64_t)lower + excess(period, upper)) % period);
+}
+
+/* Whether the task at place i may be preempted by the one at place j, by equation (8). */
+static bool decide(const struct tasks *tasks, const uint64_t barred[64], size_t i, size_t j)
+{
+    if (tasks->priorities[j] <= tasks->priorities[i] || is_set(barred[i], j))
+        return false;
+    if (tasks->transactions[i] != tasks->transactions[j])
+        return true;
+    uint32_t period = tasks->periods[i];
+    uint32_t apart = distance(period, tasks->offsets[i], tasks->offsets[j]);
+    if (apart < tasks->jitters[j])
+        return true;
+    return excess(period, apart) < excess(tasks->responses[i], tasks->offsets[i]);
+}
+
+/* Row i of the map: a bit for each task that may preempt the one at place i. */
+static uint64_t row(const struct tasks *tasks, const uint64_t barred[64], size_t i)
+{
+    uint64_t row = 0;
+    for (size_t j = 0; j < tasks->count; j++)
+        if (decide(tasks, barred, i, j))
+            row += (uint64_t)1 << j;
+    return row;
+}
+
+/* Fills a lent map from a table image. A refusal writes nothing. */
+struct plain_verdict plain_map(const uint8_t *image, size_t bytes, uint64_t *rows, size_t row_count)
+{
+    struct sizes sizes;
+    struct tasks tasks;
+    uint64_t barred[64];
+    struct plain_verdict verdict = table_verdict(image, bytes, &sizes);
+    if (verdict.number != 0)
+        return verdict;
+    if (row_count < 64)
+        return refusal(TABLE, 11, 0);
+    read_tasks(image, &sizes, &tasks);
+    read_barred(image, &sizes, &tasks, barred);
+    for (size_t i = 0; i < tasks.count; i++)
+        rows[i] = row(&tasks, barred, i);
+    for (size_t i = tasks.count; i < 64; i++)
+        rows[i] = 0;
+    return verdict;
+}

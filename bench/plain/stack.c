@@ -1,0 +1,167 @@
+/* The bound call: Algorithm 1 with the path bound for the chain, and the path, transactions and levels bounds. */
+
+uint64_t plain_chains_opened, plain_chains_allowed = UINT64_MAX;
+
+/* The rows of the relation, the places by falling priority, and the sizes by places. */
+struct setting {
+    uint64_t rows[64];
+    uint8_t order[64];
+    const uint32_t *sizes;
+};
+
+/* The chain that is open, by its places, and the heaviest found so far. */
+struct chains {
+    uint8_t open[64], best[64];
+    size_t best_length;
+    uint32_t best_weight;
+};
+
+/* The lowest place of a set that is not empty. */
+static size_t lowest(uint64_t set)
+{
+    return (size_t)__builtin_ctzll(set);
+}
+
+/* The places below count. */
+static uint64_t all_below(size_t count)
+{
+    return count == 64 ? UINT64_MAX : ((uint64_t)1 << count) - 1;
+}
+
+/* Keeps only those set cells that count: both places hold tasks, and the first has lower priority. */
+static void relate_rows(const uint32_t *priorities, const uint64_t *map, size_t count, uint64_t rows[64])
+{
+    for (size_t i = 0; i < count; i++) {
+        uint64_t higher = 0;
+        for (size_t j = 0; j < count; j++)
+            if (priorities[i] < priorities[j])
+                higher += (uint64_t)1 << j;
+        rows[i] = higher & map[i];
+    }
+}
+
+/* Puts the places below count in order of falling priority, each behind all whose priority is no lower. */
+static void order_by_falling_priority(const uint32_t *priorities, size_t count, uint8_t order[64])
+{
+    for (size_t place = 0; place < count; place++) {
+        size_t at = 0;
+        while (at < place && priorities[order[at]] >= priorities[place])
+            at++;
+        for (size_t k = place; k > at; k--)
+            order[k] = order[k - 1];
+        order[at] = (uint8_t)place;
+    }
+}
+
+/* The largest of the sums at the places of a set, or 0. */
+static uint32_t largest_at(const uint32_t sums[64], uint64_t set)
+{
+    uint32_t largest = 0;
+    while (set != 0) {
+        size_t place = lowest(set);
+        set -= (uint64_t)1 << place;
+        if (largest < sums[place])
+            largest = sums[place];
+    }
+    return largest;
+}
+
+/* The largest sum over paths inside the cover, by falling priority. */
+static uint32_t path_bound(const struct setting *setting, uint64_t cover)
+{
+    uint32_t sums[64];
+    uint64_t rest = cover;
+    for (size_t k = 0; rest != 0; k++) {
+        size_t place = setting->order[k];
+        if (is_set(rest, place)) {
+            sums[place] = setting->sizes[place] + largest_at(sums, setting->rows[place] & cover);
+            rest -= (uint64_t)1 << place;
+        }
+    }
+    return largest_at(sums, cover);
+}
+
+/* Meets the open chain and all that lengthen it, in rising order of places, and keeps the first heaviest. */
+static void search(const struct setting *setting, struct chains *chains, size_t length, uint32_t weight, uint64_t cover)
+{
+    if (plain_chains_opened++ >= plain_chains_allowed)
+        return;
+    if (chains->best_weight < weight) {
+        memcpy(chains->best, chains->open, length);
+        chains->best_length = length;
+        chains->best_weight = weight;
+    }
+    if (path_bound(setting, cover) <= chains->best_weight - weight)
+        return;
+    uint64_t rest = cover;
+    while (rest != 0) {
+        size_t place = lowest(rest);
+        rest -= (uint64_t)1 << place;
+        chains->open[length] = (uint8_t)place;
+        search(setting, chains, length + 1, weight + setting->sizes[place], cover & setting->rows[place]);
+    }
+}
+
+/* For each transaction the path bound of the tasks with its number, added up. */
+static uint64_t transaction_bound(const uint8_t *image, size_t transactions, const struct tasks *tasks,
+                                  const struct setting *setting)
+{
+    uint64_t total = 0;
+    for (size_t t = 0; t < transactions; t++) {
+        uint32_t number = two_bytes(record_at(image, t) + 2);
+        uint64_t own = 0;
+        for (size_t i = 0; i < tasks->count; i++)
+            if (tasks->transactions[i] == number)
+                own += (uint64_t)1 << i;
+        total += path_bound(setting, own);
+    }
+    return total;
+}
+
+/* For each priority in use the largest size, added up. */
+static uint32_t level_bound(const struct tasks *tasks)
+{
+    uint32_t largest[256] = {0}, sum = 0;
+    for (size_t i = 0; i < tasks->count; i++)
+        if (largest[tasks->priorities[i]] < tasks->sizes[i])
+            largest[tasks->priorities[i]] = tasks->sizes[i];
+    for (size_t priority = 0; priority < 256; priority++)
+        sum += largest[priority];
+    return sum;
+}
+
+/* The answer of an accepted call, with the chain's ids written to the room; refusal 12 where a bound passes 32 bits. */
+static struct plain_bounds find(const uint8_t *image, const struct sizes *sizes, const uint64_t *map, uint16_t *ids)
+{
+    struct tasks tasks;
+    struct setting setting;
+    struct chains chains = {.best_length = 0, .best_weight = 0};
+    read_tasks(image, sizes, &tasks);
+    setting.sizes = tasks.sizes;
+    relate_rows(tasks.priorities, map, tasks.count, setting.rows);
+    order_by_falling_priority(tasks.priorities, tasks.count, setting.order);
+    search(&setting, &chains, 0, 0, all_below(tasks.count));
+    uint32_t path = path_bound(&setting, all_below(tasks.count));
+    uint64_t transactions = transaction_bound(image, sizes->transactions, &tasks, &setting);
+    uint32_t levels = level_bound(&tasks);
+    if (transactions > 4294967295)
+        return (struct plain_bounds){.number = 12};
+    for (size_t k = 0; k < chains.best_length; k++)
+        ids[k] = (uint16_t)tasks.ids[chains.best[k]];
+    return (struct plain_bounds){.tasks = (uint32_t)tasks.count, .chain = chains.best_weight, .path = path,
+                                 .transactions = (uint32_t)transactions, .levels = levels,
+                                 .length = (uint32_t)chains.best_length};
+}
+
+/* The chain and the four bounds of a table image over a lent map of any contents. A refusal writes nothing. */
+struct plain_bounds plain_bounds(const uint8_t *image, size_t bytes, const uint64_t *map, size_t row_count,
+                                 uint16_t *ids, size_t id_count)
+{
+    struct sizes sizes;
+    struct plain_verdict verdict = table_verdict(image, bytes, &sizes);
+    if (verdict.number != 0)
+        return (struct plain_bounds){.number = verdict.number, .place = verdict.place};
+    if (row_count < 64 || id_count < 64)
+        return (struct plain_bounds){.number = 11};
+    return find(image, &sizes, map, ids);
+}
