@@ -44,13 +44,13 @@ static size_t times_in_round(work *done, void *about)
     return times;
 }
 
-/* The seconds of some work that took so long the first time: where it is short, the quickest of some rounds. */
-double seconds_of_one(work *done, void *about, double first)
+/* The seconds of some work, by the quickest of some rounds; where it takes long it is done once. */
+double seconds_of_one(work *done, void *about)
 {
-    if (first > LONGEST_REPEATED)
-        return first;
+    double least = seconds_of(done, about, 1);
+    if (least > LONGEST_REPEATED)
+        return least;
     size_t times = times_in_round(done, about);
-    double least = first;
     for (size_t round = 0; round < ROUNDS; round++) {
         double each = seconds_of(done, about, times) / (double)times;
         least = each < least ? each : least;
