@@ -5,8 +5,8 @@ ghost use lib.Dec.{leb};
 ghost use Rattle.rules.specs.Blocks.{recordAt, recordCount, records};
 ghost use Rattle.image.specs.Met.{past, metAmong};
 use crate::bytes::is_same;
-use crate::records::record_at;
 use crate::records::record_count;
+use crate::records::record_part;
 
 pub struct Reader<'a> {
     pub image: &'a [u8],
@@ -27,7 +27,7 @@ pub fn number_past(image: &[u8], k: usize, fields: &[u8]) -> usize
     if is_past(image, k) {
         return k;
     }
-    if is_same(record_at(image, k), fields) {
+    if is_same(record_part(image, k), fields) {
         k + 1
     } else {
         k
@@ -52,7 +52,7 @@ pub fn is_done<'a>(reader: Reader<'a>) -> bool
 pub fn next_record<'a>(reader: Reader<'a>) -> &'a [u8]
     ensures { λ r. ⌜ now r ≡ recordAt (now (reader .entry .image)) (reader .entry .next) ⌝ }
 {
-    record_at(reader.image, reader.next)
+    record_part(reader.image, reader.next)
 }
 
 // The reader one record further.

@@ -1,7 +1,8 @@
 // Where an image's records stand: one after another, across blocks.
 ghost use mathlib.Core.Path.{_≡_};
-ghost use Prim.Native.Nat.{min};
-ghost use Rattle.rules.specs.Blocks.{recordAt, recordCount};
+ghost use Prim.Native.Nat.{_+_, _≤_};
+ghost use lib.ListN.{length};
+ghost use Rattle.rules.specs.Blocks.{recordStart, recordAt, recordCount};
 use crate::bytes::byte_at;
 use crate::bytes::least;
 
@@ -18,8 +19,21 @@ pub fn record_count(image: &[u8]) -> usize
     rules::RECORDS_PER_BLOCK * full + held
 }
 
-// The 32 bytes of record k, as a part of the image. Past the image's end there are fewer or none.
+// The 32 bytes of record k, as a part of an image that holds it whole. Their number is known where it is called, so that
+// the fields are read without a test.
 pub fn record_at(image: &[u8], k: usize) -> &[u8]
+    requires { ⌜ recordStart k + 32 ≤ length (now image) ⌝ }
+    ensures { λ r. ⌜ now r ≡ recordAt (now (image .entry)) k ⌝ }
+{
+    let start = rules::BLOCK_BYTES * (k / rules::RECORDS_PER_BLOCK)
+        + 8
+        + rules::RECORD_BYTES * (k % rules::RECORDS_PER_BLOCK);
+    let end = start + rules::RECORD_BYTES;
+    &image[start..end]
+}
+
+// The bytes of record k that lie in the image, as a part of it: past the image's end there are fewer than 32 or none.
+pub fn record_part(image: &[u8], k: usize) -> &[u8]
     ensures { λ r. ⌜ now r ≡ recordAt (now (image .entry)) k ⌝ }
 {
     let length = image.len();

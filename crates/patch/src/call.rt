@@ -8,11 +8,12 @@ ghost use Rattle.rules.specs.Blocks.{records};
 ghost use Rattle.rules.specs.Patches.{outcome, touchedCount, patchedMap};
 ghost use Rattle.rules.specs.Refusals.{accepted, tableVerdict};
 ghost use Rattle.rules.specs.Calls.{over, patchCallVerdict, patchAnswer, roomAfter, patchedAfter};
+ghost use Rattle.image.specs.Held.{HoldsRecords};
 ghost use Rattle.patch.specs.Call.{refusedPatch, acceptedPatch, PatchCall, Offends};
 use crate::absent::verdict_of_both;
 use crate::carried::carry_map;
 use crate::outcome::write_outcome;
-use image::records::record_at;
+use image::records::record_part;
 use image::write::copy_bytes;
 use preempt::map::write_rows;
 use rules::Patched;
@@ -62,6 +63,7 @@ fn write_rooms(
     requires { ⌜ (accepted (tableVerdict (now base)) ≡ true) × (accepted (tableVerdict (now image)) ≡ true) ⌝ }
     requires { ⌜ records (now image) ≡ outcome (records (now base)) (records (now patch)) ⌝ }
     requires { ⌜ (length (now image) ≤ length (now room)) × (64 ≤ length (now carried)) ⌝ }
+    requires { ⌜ HoldsRecords (now patch) ⌝ }
     ensures { λ r. ⌜ r ≡ acceptedPatch (touchedCount (records (now (base .entry))) (records (now (patch .entry)))) (length (now (image .entry))) ⌝ }
     ensures { λ _. ⌜ now (room .exit) ≡ over (now (image .entry)) (now (room .entry)) ⌝ }
     ensures { λ _. ⌜ now (carried .exit) ≡ over (patchedMap (records (now (base .entry))) (records (now (patch .entry))) (now (map .entry))) (now (carried .entry)) ⌝ }
@@ -129,7 +131,7 @@ pub fn offending_part<'a>(base: &[u8], patch: &'a [u8]) -> &'a [u8]
     let verdict = verdict_of_both(base, patch);
     if verdict.number == 9 {
         let place = verdict.place as usize;
-        return record_at(patch, place);
+        return record_part(patch, place);
     }
     &patch[0..0]
 }

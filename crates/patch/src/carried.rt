@@ -8,6 +8,7 @@ ghost use Rattle.rules.specs.Records.{tasks as Records·tasks, placeOf};
 ghost use Rattle.rules.specs.Preempt.{cell, rowFrom, mapFrom};
 ghost use Rattle.rules.specs.Patches.{outcome};
 ghost use Rattle.rules.specs.Refusals.{accepted, tableVerdict};
+ghost use Rattle.image.specs.Held.{HoldsRecords};
 ghost use Rattle.preempt.specs.Bits.{column};
 ghost use Rattle.patch.specs.Carried.{cellCarried, carriedBy, MapCarried};
 use crate::touched::count_places;
@@ -164,6 +165,7 @@ fn carried_rows(
 pub fn carry_map(base: &[u8], patch: &[u8], image: &[u8], rows: &[u64]) -> Carried
     requires { ⌜ (accepted (tableVerdict (now base)) ≡ true) × (accepted (tableVerdict (now image)) ≡ true) ⌝ }
     requires { ⌜ records (now image) ≡ outcome (records (now base)) (records (now patch)) ⌝ }
+    requires { ⌜ HoldsRecords (now patch) ⌝ }
     ensures { λ r. ⌜ MapCarried (records (now (base .entry))) (records (now (patch .entry))) (now (rows .entry)) r ⌝ }
 {
     let tasks = read_tasks(image);

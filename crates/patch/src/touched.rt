@@ -6,6 +6,7 @@ ghost use lib.ListN.{length, getD};
 ghost use Rattle.rules.specs.Numbers.{countTo};
 ghost use Rattle.rules.specs.Blocks.{records};
 ghost use Rattle.table.specs.Numbers.{Rising};
+ghost use Rattle.image.specs.Held.{HoldsRecords};
 ghost use Rattle.preempt.specs.Bits.{bitAt};
 ghost use Rattle.patch.specs.Touched.{Marks, concernsTask, touchedAt};
 use image::bytes::byte_at;
@@ -71,6 +72,7 @@ fn concerned(ids: &[u32], transactions: &[u32], count: usize, fields: &[u8]) -> 
 pub fn touched_tasks(patch: &[u8], ids: &[u32], transactions: &[u32], count: usize) -> u64
     requires { ⌜ (count ≤ 64) × ((count ≤ length (now ids)) × (count ≤ length (now transactions))) ⌝ }
     requires { ⌜ Rising (now ids) count ⌝ }
+    requires { ⌜ HoldsRecords (now patch) ⌝ }
     ensures { λ r. ⌜ Marks count (touchedAt (records (now (patch .entry))) (now (ids .entry)) (now (transactions .entry))) r ⌝ }
 {
     let records = record_count(patch);

@@ -1,18 +1,22 @@
 -- The records of an accepted table, as they stand in its image.
-use Prim.Native.Nat.{ℕ, _+_, _<_}
+use Prim.Native.Nat.{ℕ, _+_, _≤_, _<_}
 use mathlib.Core.List.{List, []}
 use mathlib.Core.Bool.{true}
 use mathlib.Core.Path.{_≡_}
+use native.Mathlib.Omega.{arith}
 use lib.ListN.{length, getD}
 use mir.Val.{Fits}
 use mir.Syntax.{w8}
 use Rattle.rules.specs.Numbers.{Bytes}
-use Rattle.rules.specs.Blocks.{records, recordAt}
+use Rattle.rules.specs.Blocks.{records, recordAt, recordCount, recordStart}
 use Rattle.rules.specs.Records.{transactions, tasks, pairs, taskCount}
 use Rattle.rules.specs.Refusals.{accepted, tableVerdict}
+use Rattle.rules.proofs.Numbers.{length-upTo}
+use Rattle.rules.proofs.Table.Kinds.{length-split}
 use Rattle.rules.proofs.Table.Standing as Standing
 use Rattle.rules.proofs.Table.Shape.{Shape}
 use Rattle.rules.proofs.Table.Listed.{Listed, table-of}
+use Rattle.table.proofs.Counts.{table-held}
 
 -- what is known of the bytes of a lent image, and that the table was accepted
 module _ (image : List ℕ) (known : (k : ℕ) → Fits w8 (getD image k 0)) (right : accepted (tableVerdict image) ≡ true) where
@@ -25,6 +29,12 @@ module _ (image : List ℕ) (known : (k : ℕ) → Fits w8 (getD image k 0)) (ri
 
   pub names-listed : Listed (records image)
   names-listed = table-of image bytes right .1
+
+  -- each record lies whole in the image
+  pub record-whole : (k : ℕ) → k < length (transactions (records image)) + taskCount (records image) + length (pairs (records image))
+      → recordStart k + 32 ≤ length image
+  record-whole k h =
+      omega (arith, table-held image right, length-split (records image) (shape .split), length-upTo (recordAt image) (recordCount image))
 
   -- the transactions stand first, then the tasks, then the pairs
   pub transaction-record : (i : ℕ) → i < length (transactions (records image)) → recordAt image i ≡ getD (transactions (records image)) i []

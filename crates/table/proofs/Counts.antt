@@ -9,10 +9,10 @@ use lib.ListN.{length, getD}
 use lib.Seq.{ext-getD}
 use lib.Dec.{leb, ltb, eqb}
 use Rattle.rules.specs.declared.Form.{Form}
-use Rattle.rules.specs.declared.Form.the-variants.{Table}
+use Rattle.rules.specs.declared.Form.the-variants.{Table, Patch}
 use Rattle.rules.specs.Numbers.{Bytes, sumTo, countTo}
 use Rattle.rules.specs.Blocks.{records, recordCount}
-use Rattle.rules.specs.Refusals.{accepted, orElse, frameVerdict, recordsVerdict, referenceRefusal, tableVerdict}
+use Rattle.rules.specs.Refusals.{accepted, orElse, frameVerdict, recordsVerdict, referenceRefusal, tableVerdict, patchVerdict}
 use Rattle.rules.proofs.Refusals.{accepted-first, accepted-second}
 use Rattle.rules.proofs.Table.Kinds.{Grouped, length-ofKind}
 use Rattle.rules.proofs.Table.Order.{kind-rises}
@@ -21,6 +21,7 @@ use Rattle.rules.proofs.Blocks.{mostBlocks-most}
 use Rattle.rules.proofs.Image.Frame.{frame-of, records-fit}
 use Rattle.rules.specs.Records.{kindOf, wayOf, ofKind, countOf, mostOf, tooMany}
 use Rattle.rules.proofs.Numbers.{either, sumTo-ext}
+use Rattle.image.specs.Held.{HoldsRecords}
 use Rattle.table.specs.Tally.{slotOf, Tallied, KindStart}
 
 -- two tallies of the same records are equal
@@ -84,6 +85,23 @@ pub records-few : (form : Form) (image : List ℕ) → accepted (frameVerdict fo
 records-few form image a =
     let f = frame-of form image a in
     omega (arith, records-fit form image f, f .not-too-many, mostBlocks-most form)
+
+-- and holds them
+pub records-held : (form : Form) (image : List ℕ) → accepted (frameVerdict form image) ≡ true → HoldsRecords image
+records-held form image a = records-fit form image (frame-of form image a)
+
+-- so does an accepted table
+pub table-held : (image : List ℕ) → accepted (tableVerdict image) ≡ true → HoldsRecords image
+unfolding tableVerdict
+table-held image table =
+    records-held Table image
+    (accepted-first (frameVerdict Table image) (orElse (recordsVerdict Table (records image)) (referenceRefusal (records image))) table)
+
+-- and an accepted patch
+pub patch-held : (image : List ℕ) → accepted (patchVerdict image) ≡ true → HoldsRecords image
+unfolding patchVerdict
+patch-held image patch =
+    records-held Patch image (accepted-first (frameVerdict Patch image) (recordsVerdict Patch (records image)) patch)
 
 -- the records of an accepted table are accepted
 pub records-accepted : (image : List ℕ) → accepted (tableVerdict image) ≡ true → accepted (recordsVerdict Table (records image)) ≡ true

@@ -7,6 +7,7 @@ ghost use Rattle.rules.specs.Blocks.{records, recordCount};
 ghost use Rattle.rules.specs.Records.{ofKind};
 ghost use Rattle.rules.specs.Refusals.{accepted, recordsVerdict};
 ghost use Rattle.rules.specs.declared.Form.the-variants.{Table};
+ghost use Rattle.image.specs.Held.{HoldsRecords};
 ghost use Rattle.table.specs.Tally.{slotOf, Tallied, KindStart};
 use image::bytes::byte_at;
 use image::records::record_at;
@@ -30,6 +31,7 @@ fn slot(fields: &[u8]) -> usize
 // How many records there are of each kind and way: of kind k and way w at k + 4 * w.
 pub fn tally(image: &[u8]) -> [u32; 8]
     requires { ⌜ recordCount (now image) ≤ 1000 ⌝ }
+    requires { ⌜ HoldsRecords (now image) ⌝ }
     ensures { λ r. ⌜ Tallied (records (now (image .entry))) r ⌝ }
 {
     let count = record_count(image);
@@ -46,6 +48,7 @@ pub fn tally(image: &[u8]) -> [u32; 8]
 // The number of the first record that is of at least this kind, or the number of records, by halving: kinds do not fall.
 fn kind_start(image: &[u8], kind: u32) -> usize
     requires { ⌜ accepted (recordsVerdict Table (records (now image))) ≡ true ⌝ }
+    requires { ⌜ HoldsRecords (now image) ⌝ }
     ensures { λ r. ⌜ KindStart (records (now (image .entry))) kind r ⌝ }
 {
     let mut low: usize = 0;
@@ -64,6 +67,7 @@ fn kind_start(image: &[u8], kind: u32) -> usize
 // How many records of a kind an image has whose records are in order.
 pub fn count_kind(image: &[u8], kind: u32) -> usize
     requires { ⌜ (accepted (recordsVerdict Table (records (now image))) ≡ true) × (kind ≤ 3) ⌝ }
+    requires { ⌜ HoldsRecords (now image) ⌝ }
     ensures { λ r. ⌜ (r ≡ length (ofKind kind (records (now (image .entry))))) × (r ≤ recordCount (now (image .entry))) ⌝ }
 {
     kind_start(image, kind + 1) - kind_start(image, kind)

@@ -5,6 +5,7 @@ ghost use lib.ListN.{getD};
 ghost use Rattle.rules.specs.Numbers.{lowest};
 ghost use Rattle.rules.specs.Blocks.{records, recordCount};
 ghost use Rattle.rules.specs.Records.{mostWay, zeroBytes, formWrong};
+ghost use Rattle.image.specs.Held.{HoldsRecords};
 use image::bytes::byte_at;
 use image::bytes::is_blank;
 use image::records::record_at;
@@ -62,6 +63,7 @@ fn is_form_wrong(form: Form, fields: &[u8]) -> bool
 
 // The first record of a wrong form, or the number of records.
 pub fn first_wrong_form(form: Form, image: &[u8]) -> usize
+    requires { ⌜ HoldsRecords (now image) ⌝ }
     ensures { λ r. ⌜ r ≡ lowest (λ k. formWrong form (getD (records (now (image .entry))) k [])) (recordCount (now (image .entry))) ⌝ }
 {
     let count = record_count(image);

@@ -5,6 +5,7 @@ ghost use Rattle.rules.specs.Numbers.{lowest};
 ghost use Rattle.rules.specs.Blocks.{records, recordCount};
 ghost use Rattle.rules.specs.Records.{key as Records·key, imageKey};
 ghost use Rattle.rules.specs.Refusals.{orderWrong};
+ghost use Rattle.image.specs.Held.{HoldsRecords};
 use image::bytes::byte_at;
 use image::bytes::two_bytes;
 use image::records::record_at;
@@ -32,6 +33,7 @@ fn image_key(fields: &[u8]) -> u64
 
 // The first record that is not after the one before it, or the number of records.
 pub fn first_wrong_order(image: &[u8]) -> usize
+    requires { ⌜ HoldsRecords (now image) ⌝ }
     ensures { λ r. ⌜ r ≡ lowest (orderWrong (records (now (image .entry)))) (recordCount (now (image .entry))) ⌝ }
 {
     let count = record_count(image);

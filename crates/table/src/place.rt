@@ -1,7 +1,9 @@
 // Where a number stands among numbers that rise.
 ghost use mathlib.Core.Path.{_≡_};
-ghost use Prim.Native.Nat.{ℕ, _≤_, _<_};
+ghost use Prim.Native.Nat.{ℕ, _+_, _≤_, _<_};
 ghost use lib.ListN.{length, getD};
+ghost use Rattle.rules.specs.Blocks.{recordCount};
+ghost use Rattle.image.specs.Held.{HoldsRecords};
 ghost use Rattle.table.specs.Numbers.{Rising, placeAmong, NumbersRead};
 use image::bytes::two_bytes;
 use image::records::record_at;
@@ -40,7 +42,8 @@ pub fn place_of(numbers: &[u32], count: usize, number: u32) -> usize
 
 // The numbers or ids of up to 64 records from the first on.
 pub fn numbers_from(image: &[u8], first: usize, count: usize) -> [u32; 64]
-    requires { ⌜ (count ≤ 64) × (first ≤ 1000) ⌝ }
+    requires { ⌜ (count ≤ 64) × (first + count ≤ recordCount (now image)) ⌝ }
+    requires { ⌜ HoldsRecords (now image) ⌝ }
     ensures { λ r. ⌜ NumbersRead (now (image .entry)) first count r ⌝ }
 {
     let mut numbers = [0u32; 64];

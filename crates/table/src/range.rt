@@ -5,6 +5,7 @@ ghost use lib.ListN.{getD};
 ghost use Rattle.rules.specs.Numbers.{lowest};
 ghost use Rattle.rules.specs.Blocks.{records, recordCount};
 ghost use Rattle.rules.specs.Records.{transactionRight, nameRight, jitterRight, timeRight, taskRight, pairRight, rangeWrong};
+ghost use Rattle.image.specs.Held.{HoldsRecords};
 use image::bytes::byte_at;
 use image::bytes::four_bytes;
 use image::bytes::two_bytes;
@@ -113,6 +114,7 @@ fn is_range_wrong(fields: &[u8]) -> bool
 
 // The first record with a field out of range, or the number of records.
 pub fn first_wrong_range(image: &[u8]) -> usize
+    requires { ⌜ HoldsRecords (now image) ⌝ }
     ensures { λ r. ⌜ r ≡ lowest (λ k. rangeWrong (getD (records (now (image .entry))) k [])) (recordCount (now (image .entry))) ⌝ }
 {
     let count = record_count(image);

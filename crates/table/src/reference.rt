@@ -8,6 +8,7 @@ ghost use Rattle.rules.specs.Blocks.{records, recordCount};
 ghost use Rattle.rules.specs.Records.{transactions as Records·transactions, tasks as Records·tasks, transactionMissing, taskMissing, referenceWrong};
 ghost use Rattle.rules.specs.Refusals.{accepted, recordsVerdict};
 ghost use Rattle.rules.specs.declared.Form.the-variants.{Table};
+ghost use Rattle.image.specs.Held.{HoldsRecords};
 ghost use Rattle.table.specs.Numbers.{Directory};
 use crate::count::count_kind;
 use crate::place::numbers_from;
@@ -22,6 +23,7 @@ use image::records::record_count;
 fn is_transaction_missing(image: &[u8], numbers: &[u32], transactions: usize, fields: &[u8]) -> bool
     requires { ⌜ accepted (recordsVerdict Table (records (now image))) ≡ true ⌝ }
     requires { ⌜ Directory (Records·transactions (records (now image))) (now numbers) transactions ⌝ }
+    requires { ⌜ HoldsRecords (now image) ⌝ }
     ensures { λ r. ⌜ r ≡ transactionMissing (records (now (image .entry))) (now (fields .entry)) ⌝ }
 {
     let place = place_of(numbers, transactions, two_bytes(fields, 4));
@@ -54,6 +56,7 @@ fn is_reference_wrong(
     requires { ⌜ accepted (recordsVerdict Table (records (now image))) ≡ true ⌝ }
     requires { ⌜ Directory (Records·transactions (records (now image))) (now numbers) transactions ⌝ }
     requires { ⌜ Directory (Records·tasks (records (now image))) (now ids) tasks ⌝ }
+    requires { ⌜ HoldsRecords (now image) ⌝ }
     ensures { λ r. ⌜ r ≡ referenceWrong (records (now (image .entry))) (now (fields .entry)) ⌝ }
 {
     let kind = byte_at(fields, 0);
@@ -70,6 +73,7 @@ fn is_reference_wrong(
 // and each record then looks its references up by halving.
 pub fn first_wrong_reference(image: &[u8]) -> usize
     requires { ⌜ accepted (recordsVerdict Table (records (now image))) ≡ true ⌝ }
+    requires { ⌜ HoldsRecords (now image) ⌝ }
     ensures { λ r. ⌜ r ≡ lowest (λ k. referenceWrong (records (now (image .entry))) (getD (records (now (image .entry))) k [])) (recordCount (now (image .entry))) ⌝ }
 {
     let transactions = count_kind(image, 1);

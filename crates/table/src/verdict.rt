@@ -5,10 +5,9 @@ ghost use Prim.Native.Nat.{_+_, _≤_};
 ghost use lib.Dec.{ltb};
 ghost use lib.ListN.{length, getD};
 ghost use Rattle.rules.specs.Blocks.{records, recordCount};
-ghost use Rattle.rules.specs.Records.{tooMany};
 ghost use Rattle.rules.specs.Refusals.{accepted, recordsVerdict, countRefusal, referenceRefusal, tableVerdict, patchVerdict};
 ghost use Rattle.rules.specs.declared.Form.the-variants.{Table};
-ghost use Rattle.table.specs.Tally.{Tallied};
+ghost use Rattle.image.specs.Held.{HoldsRecords};
 use crate::count::tally;
 use crate::form::first_wrong_form;
 use crate::order::first_wrong_order;
@@ -34,6 +33,7 @@ fn has_too_many(counts: [u32; 8], kind: usize, most: u32) -> bool
 // 7: too many of a kind.
 fn count_verdict(form: Form, image: &[u8]) -> Verdict
     requires { ⌜ recordCount (now image) ≤ 1000 ⌝ }
+    requires { ⌜ HoldsRecords (now image) ⌝ }
     ensures { λ r. ⌜ r ≡ countRefusal form (records (now (image .entry))) ⌝ }
 {
     let counts = tally(image);
@@ -55,6 +55,7 @@ fn count_verdict(form: Form, image: &[u8]) -> Verdict
 // 4 to 7: form, then order, then ranges, then counts, each over the whole image before the next.
 fn records_verdict(form: Form, image: &[u8]) -> Verdict
     requires { ⌜ recordCount (now image) ≤ 1000 ⌝ }
+    requires { ⌜ HoldsRecords (now image) ⌝ }
     ensures { λ r. ⌜ r ≡ recordsVerdict form (records (now (image .entry))) ⌝ }
 {
     let count = record_count(image);
@@ -77,6 +78,7 @@ fn records_verdict(form: Form, image: &[u8]) -> Verdict
 fn reference_verdict(image: &[u8]) -> Verdict
     requires { ⌜ recordCount (now image) ≤ 1000 ⌝ }
     requires { ⌜ accepted (recordsVerdict Table (records (now image))) ≡ true ⌝ }
+    requires { ⌜ HoldsRecords (now image) ⌝ }
     ensures { λ r. ⌜ r ≡ referenceRefusal (records (now (image .entry))) ⌝ }
 {
     let unlisted = first_wrong_reference(image);

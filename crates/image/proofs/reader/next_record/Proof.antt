@@ -44,10 +44,10 @@ use Rattle.rules.specs.Blocks.{recordAt}
 use Rattle.image.specs.declared.reader.Reader.{Reader}
 use Rattle.image.proofs.reader.Reader as T
 use Rattle.image.proofs.reader.Reader.Laws as T′
-use Rattle.image.proofs.records.record_at as place
-use Rattle.image.proofs.records.record_at.Symbol as place-def
-use Rattle.image.proofs.records.record_at.Symbol.{name as #image·records·record-at}
-use Rattle.image.proofs.records.record_at.Met as place-thm
+use Rattle.image.proofs.records.record_part as place
+use Rattle.image.proofs.records.record_part.Symbol as place-def
+use Rattle.image.proofs.records.record_part.Symbol.{name as #image·records·record-part}
+use Rattle.image.proofs.records.record_part.Met as place-thm
 use Rattle.image.proofs.reader.next_record.Key.{name as #image·reader·next-record}
 use Rattle.image.proofs.reader.next_record as next-record
 use Rattle.image.proofs.reader.next_record.Statement as stated
@@ -121,7 +121,7 @@ module _ {M : Type 1} (𝓤 : URA M) (H : Heap 𝓤) (A : Atoms 𝓤) (W : Given
       suffices ! _ (ends-at 𝓤 H A next-record.ended stayed (next-record.clauses 𝓤 H A mem run) W (((κ, tt), (q, tt), tt, (d, tt), (mach ∷ [], tt)), tt) u r (tt, tt) (tt, tt)) $ says ! e $
       move ! (1 ∷ []) $ frame ! $ nothing ! $ move ! (2 ∷ 0 ∷ []) $ fjoin ! $ frame ! $ done !
 
-  module _ (C : Calls 𝓤 H) (Λ : Loops 𝓤 H) (fm : FmC 𝓤 H (W .laws) C) (known : Triple 𝓤 (C #image·records·record-at) (RecordAt 𝓤 H A mem run)) where
+  module _ (C : Calls 𝓤 H) (Λ : Loops 𝓤 H) (fm : FmC 𝓤 H (W .laws) C) (known : Triple 𝓤 (C #image·records·record-part) (RecordAt 𝓤 H A mem run)) where
     walk : Holds (hasTy (T′.mir (named 0)) mach) × WT mach → ent 𝓤 (onEntry 𝓤 H A next-record.signature (κ, tt) (q, tt) (d, tt) (mach ∷ [], tt)) (WpFn 𝓤 H C Λ code.function (mach ∷ []) Post)
     walk wt =
         qed W (raw (onEntry 𝓤 H A next-record.signature (κ, tt) (q, tt) (d, tt) (mach ∷ [], tt)) ∷ []) ∵ enter ! C Λ code.function (mach ∷ []) _ $
@@ -139,13 +139,13 @@ module _ {M : Type 1} (𝓤 : URA M) (H : Heap 𝓤) (A : Atoms 𝓤) (W : Given
         move ! (9 ∷ 10 ∷ []) $ free1 ! $ move ! (7 ∷ 8 ∷ []) $ free1 ! $ move ! (5 ∷ 6 ∷ []) $ free1 ! $ move ! (3 ∷ 4 ∷ []) $ free1 ! $ free0 ! $ by ! (exits r u e)))))))))
 
 module _ {M : Type 1} (𝓤 : URA M) (H : Heap 𝓤) (A : Atoms 𝓤) (W : Given 𝓤 H A) (mem : Memory → SProp 𝓤) (run : Routine → Fun 𝓤) where
-  next-record-walks : (C : Calls 𝓤 H) (Λ : Loops 𝓤 H) → FmC 𝓤 H (W .laws) C → Triple 𝓤 (C #image·records·record-at) (RecordAt 𝓤 H A mem run)
+  next-record-walks : (C : Calls 𝓤 H) (Λ : Loops 𝓤 H) → FmC 𝓤 H (W .laws) C → Triple 𝓤 (C #image·records·record-part) (RecordAt 𝓤 H A mem run)
       → Walks 𝓤 H A next-record.ended stayed (WpFn 𝓤 H C Λ code.function) (next-record.clauses 𝓤 H A mem run)
   next-record-walks C Λ fm known = walked 𝓤 H A next-record.ended stayed (next-record.clauses 𝓤 H A mem run) (WpFn 𝓤 H C Λ code.function) (λ κs. (LL.vals (T.the-type (namedLft 1 0 tt κs)) (T′.the-laws (namedLft 1 0 tt κs)), tt)) (λ κs. (LL.tells (T.the-type (namedLft 1 0 tt κs)) (T′.the-laws (namedLft 1 0 tt κs)), tt))
       (λ κs qs bounds a g are. via 𝓤 _ (fst∗ 𝓤 _ (emp 𝓤)) (walk 𝓤 H A W mem run (κs .0) (qs .0) (a .0) C Λ fm known (LL.lawful (T.the-type (namedLft 1 0 tt κs)) (T′.the-laws (namedLft 1 0 tt κs)) 𝓤 H A W .typed (a .0) _ (are .0) .0)))
 
 next-record-meets : {M : Type 1} (𝓤 : URA M) (H : Heap 𝓤) (A : Atoms 𝓤) (W : Given 𝓤 H A) (mem : Memory → SProp 𝓤) (run : Routine → Fun 𝓤) (𝓣 : Tables 𝓤 H)
-    → Triple 𝓤 (𝓣 .C #image·records·record-at) (RecordAt 𝓤 H A mem run)
+    → Triple 𝓤 (𝓣 .C #image·records·record-part) (RecordAt 𝓤 H A mem run)
     → Meets 𝓤 H A next-record.signature (WpFn 𝓤 H (𝓣 .C) (𝓣 .Λ) code.function) (next-record.spec 𝓤 H A mem run)
 next-record-meets 𝓤 H A W mem run 𝓣 known-callee = walk-meets 𝓤 H A next-record.ended stayed W (goes-none 𝓤 H A W 1 B yes (λ κs x f. refl), tt) (next-record.clauses 𝓤 H A mem run) (WpFn 𝓤 H (𝓣 .C) (𝓣 .Λ) code.function) (WpFn-mono 𝓤 H (W .laws) 𝓣 code.function)
     (next-record-walks 𝓤 H A W mem run (𝓣 .C) (𝓣 .Λ) (fmOf 𝓤 H (W .laws) 𝓣) known-callee)
@@ -156,4 +156,4 @@ next-record-spec 𝓤 H 𝓜 𝓖 𝓡 =
     entered 𝓤 H (tripleOf 𝓤 H (𝓖 .A) next-record.signature (next-record.spec 𝓤 H (𝓖 .A) (𝓜 .mem) (𝓡 .run)))
     (tables 𝓤 H 𝓜 𝓡 code.env .C) (tables 𝓤 H 𝓜 𝓡 code.env .Λ) #image·reader·next-record code.function (code.unfolded 𝓤 H 𝓜 𝓡)
     (next-record-meets 𝓤 H (𝓖 .A) (givenOf 𝓤 H 𝓜 𝓖) (𝓜 .mem) (𝓡 .run) (tablesOf 𝓤 H 𝓜 (tables 𝓤 H 𝓜 𝓡 code.env))
-    (cited 𝓤 H (RecordAt 𝓤 H (𝓖 .A) (𝓜 .mem) (𝓡 .run)) 𝓜 𝓡 code.env #image·records·record-at place-def.routine code.calls-image·records·record-at (place-thm.met 𝓤 H 𝓜 𝓖 𝓡)))
+    (cited 𝓤 H (RecordAt 𝓤 H (𝓖 .A) (𝓜 .mem) (𝓡 .run)) 𝓜 𝓡 code.env #image·records·record-part place-def.routine code.calls-image·records·record-part (place-thm.met 𝓤 H 𝓜 𝓖 𝓡)))

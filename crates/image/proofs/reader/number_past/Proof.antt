@@ -29,8 +29,8 @@ returns c =
     let args = c .before .before .before .before .args in
     sym (past-last (args .image .now) (args .fields .now) (args .k) (leb-true _ _ (sym (c .before .is-past .ensures) ∙ c .if1 .taken)))
 
-record-at-requires : tie.Need-record-at-requires
-record-at-requires c κs = search needs
+record-part-requires : tie.Need-record-part-requires
+record-part-requires c κs = search needs
 
 is-same-requires : tie.Need-is-same-requires
 is-same-requires c κs = search needs
@@ -46,14 +46,14 @@ returns-2 : tie.Need-returns-2
 returns-2 c =
     let args = c .before .before .before .before .before .before .before .args in
     let here = inside _ _ (c .before .before .before .before .is-past .ensures) (c .before .before .before .if1 .left) in
-    let found = compared (args .image .now) (args .fields .now) (args .k) (c .before .before .record-at .ensures) (c .before .is-same .ensures) in
+    let found = compared (args .image .now) (args .fields .now) (args .k) (c .before .before .record-part .ensures) (c .before .is-same .ensures) in
     rw (past-inside (args .image .now) (args .fields .now) (args .k) here, ← found, c .if2 .taken)
 
 returns-3 : tie.Need-returns-3
 returns-3 c =
     let args = c .before .before .before .before .before .before .before .args in
     let here = inside _ _ (c .before .before .before .before .is-past .ensures) (c .before .before .before .if1 .left) in
-    let found = compared (args .image .now) (args .fields .now) (args .k) (c .before .before .record-at .ensures) (c .before .is-same .ensures) in
+    let found = compared (args .image .now) (args .fields .now) (args .k) (c .before .before .record-part .ensures) (c .before .is-same .ensures) in
     rw (past-inside (args .image .now) (args .fields .now) (args .k) here, ← found, c .if2 .left)
 
 pub number-past-spec : {M : Type 1} → statement M
@@ -62,7 +62,7 @@ number-past-spec =
     (tie.spec
     is-past-requires
     returns
-    record-at-requires
+    record-part-requires
     is-same-requires
     add-result
     returns-2

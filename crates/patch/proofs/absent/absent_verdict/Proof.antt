@@ -5,7 +5,7 @@ use native.Mathlib.Omega.{arith}
 use Rattle.rules.specs.declared.Form.the-variants.{Patch}
 use Rattle.rules.specs.Blocks.{recordAt, recordCount}
 use Rattle.rules.specs.Records.{wayOf}
-use Rattle.table.proofs.Counts.{records-few}
+use Rattle.table.proofs.Counts.{records-few, patch-held}
 use Rattle.patch.proofs.Accepted.{patch-frame}
 use Rattle.patch.proofs.Lacking.{absent-refused, absent-none}
 use borrow.Author.Needs.{needs}
@@ -19,7 +19,7 @@ record-count-requires : tie.Need-record-count-requires
 record-count-requires c κs = search needs
 
 record-at-requires : tie.Need-record-at-requires
-record-at-requires c κs = search needs
+record-at-requires c κs = omega (arith, patch-held (c .before .before .before .before .before .args .patch .now) (c .before .before .before .before .before .pre .1), c .before .record-count .ensures, c .if1 .taken)
 
 byte-at-requires : tie.Need-byte-at-requires
 byte-at-requires c κs = search needs

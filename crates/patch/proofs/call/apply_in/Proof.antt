@@ -15,6 +15,7 @@ use Rattle.rules.specs.Refusals.{accepted, refusal, tableVerdict}
 use Rattle.rules.specs.Calls.{over}
 use Rattle.rules.proofs.Tests.{neither-first, neither-second}
 use Rattle.patch.specs.Call.{acceptedPatch}
+use Rattle.table.proofs.Counts.{patch-held}
 use Rattle.patch.proofs.Calling.{bothVerdict, isShort, both-table, both-patch, both-present, call-refused, call-broken, call-short, call-fine, patch-refused, patch-accepted, refused-broken, accepted-whole, accepted-image, accepted-records, accepted-length}
 use borrow.Author.Needs.{needs}
 use Rattle.patch.proofs.call.apply_in.Statement.{statement}
@@ -109,7 +110,7 @@ write-rooms-requires c κs =
     let rooms = neither-second (ltb (length (a .map .now)) 64) _ enough in
     let carried = ltb-false (length (a .carried .now)) 64 (neither-first (ltb (length (a .carried .now)) 64) _ rooms) in
     let room = ltb-false (length (a .room .now)) n (neither-second (ltb (length (a .carried .now)) 64) _ rooms) in
-    ((both-table (a .base .now) (a .patch .now) both, right), (accepted-records (a .base .now) (a .patch .now) both n (a .space .now) later made right, (omega (arith, length-take-le n later (made .inside)), carried)))
+    ((both-table (a .base .now) (a .patch .now) both, right), (accepted-records (a .base .now) (a .patch .now) both n (a .space .now) later made right, ((omega (arith, length-take-le n later (made .inside)), carried), patch-held (a .patch .now) (both-patch (a .base .now) (a .patch .now) both))))
 
 same-length-3 : tie.Need-same-length-3
 same-length-3 c = search needs

@@ -16,8 +16,8 @@ verdict-of-both-requires c κs = search needs
 cast-place : tie.Need-cast-place
 cast-place c = search needs
 
-record-at-requires : tie.Need-record-at-requires
-record-at-requires c κs = search needs
+record-part-requires : tie.Need-record-part-requires
+record-part-requires c κs = search needs
 
 returns : tie.Need-returns
 returns c =
@@ -25,7 +25,7 @@ returns c =
     let verdict : c .before .before .before .before .verdict-of-both .result ≡ bothVerdict (a .base .now) (a .patch .now) = c .before .before .before .before .verdict-of-both .ensures in
     let nine : eqb (bothVerdict (a .base .now) (a .patch .now) .number) 9 ≡ true = eq-eqb _ 9 (ap (λ (v : Verdict). v .number) (sym verdict) ∙ c .before .before .if1 .taken) in
     λ rows room newRows.
-    c .record-at .ensures
+    c .record-part .ensures
     ∙ ap (λ (v : Verdict). recordAt (a .patch .now) (v .place)) verdict
     ∙ sym (offending-number (a .base .now) (a .patch .now) rows room newRows ∙ rw nine)
 
@@ -51,7 +51,7 @@ offending-part-spec =
     (tie.spec
     verdict-of-both-requires
     cast-place
-    record-at-requires
+    record-part-requires
     returns
     sub-result
     part-result-start

@@ -46,7 +46,7 @@ touched-tasks-requires c κs =
     let d = directory (c .before .before .before .before .before .before .before .before .before .before .args .image .now) (λ k. c .before .before .before .before .before .before .before .shared-slice-known3 .given k .fits) (c .before .before .before .before .before .before .before .before .before .before .pre .0 .1) (c .before .before .before .before .before .read-tasks .result) (c .before .before .before .before .before .read-tasks .ensures) in
     let few = few-read (c .before .before .before .before .before .before .before .before .before .before .args .image .now) (λ k. c .before .before .before .before .before .before .before .shared-slice-known3 .given k .fits) (c .before .before .before .before .before .before .before .before .before .before .pre .0 .1) (c .before .before .before .before .before .read-tasks .result) (c .before .before .before .before .before .read-tasks .ensures) in
     let long = ap length (c .before .before .before .before .before .read-tasks .ensures .transactions) ∙ column-length (taskCount (records (c .before .before .before .before .before .before .before .before .before .before .args .image .now))) (λ i. taskAt (records (c .before .before .before .before .before .before .before .before .before .before .args .image .now)) i .transaction) in
-    ((few, (d .room, omega arith)), d .rising)
+    ((few, (d .room, omega arith)), (d .rising, c .before .before .before .before .before .before .before .before .before .before .pre .1 .1))
 
 slice-aggregate-old-places : tie.Need-slice-aggregate-old-places
 slice-aggregate-old-places c = search needs
@@ -74,7 +74,7 @@ returns c =
     let a = c .before .before .before .before .before .before .before .before .before .before .before .before .before .before .before .before .args in
     let bs = records (a .base .now) in
     let ps = records (a .patch .now) in
-    let made = c .before .before .before .before .before .before .before .before .before .before .before .before .before .before .before .before .pre .1 in
+    let made = c .before .before .before .before .before .before .before .before .before .before .before .before .before .before .before .before .pre .1 .0 in
     let shape : Shape (outcome bs ps) = rw made at (table-of (a .image .now) (λ k. c .before .before .before .before .before .before .before .before .before .before .before .before .before .shared-slice-known3 .given k .fits) (c .before .before .before .before .before .before .before .before .before .before .before .before .before .before .before .before .pre .0 .1) .0) in
     let read : TasksRead (outcome bs ps) (c .before .before .before .before .before .before .before .before .before .before .before .read-tasks .result) = rw made at (c .before .before .before .before .before .before .before .before .before .before .before .read-tasks .ensures) in
     let barred : c .before .before .before .before .before .before .before .before .before .before .read-barred .result ≡ barredMap (outcome bs ps) = rw made at (c .before .before .before .before .before .before .before .before .before .before .read-barred .ensures) in

@@ -7,13 +7,15 @@ use native.Mathlib.Omega.{arith}
 use borrow.Author.Needs.{needs}
 use lib.Dec.{eqb}
 use lib.ListN.{length, getD}
-use Rattle.table.proofs.Counts.{records-accepted}
+use Rattle.table.proofs.Counts.{records-accepted, table-held}
+use Rattle.rules.proofs.Table.Kinds.{length-split}
+use Rattle.preempt.proofs.Accepted.{shape}
 use Rattle.rules.specs.Numbers.{Bytes}
 use Rattle.rules.specs.Blocks.{records}
 use Rattle.rules.specs.Records.{transactions, tasks, taskCount, placeOf}
 use Rattle.rules.specs.Refusals.{accepted, tableVerdict}
 use Rattle.rules.proofs.Numbers.{lowest-le}
-use Rattle.rules.proofs.Patch.Valid.{valid-of, valid-few, valid-few-tasks}
+use Rattle.rules.proofs.Patch.Valid.{valid-of, valid-few-tasks}
 use Rattle.table.specs.Numbers.{Directory, NumbersRead}
 use Rattle.table.proofs.Places.{tasks-directory, place-in}
 use Rattle.preempt.specs.Bits.{column}
@@ -33,16 +35,17 @@ abbrev μ-loop : tie.MeasureT-loop
 μ-loop base ids count first known base-ids places₀ i₀ places i = count - i
 
 count-kind-requires : tie.Need-count-kind-requires Inv-loop μ-loop
-count-kind-requires c κs = (records-accepted (c .before .before .args .base .now) (c .before .before .pre .0), omega arith)
+count-kind-requires c κs = ((records-accepted (c .before .before .args .base .now) (c .before .before .pre .0), omega arith), table-held (c .before .before .args .base .now) (c .before .before .pre .0))
 
 count-kind-requires-2 : tie.Need-count-kind-requires-2 Inv-loop μ-loop
-count-kind-requires-2 c κs = (records-accepted (c .before .before .before .args .base .now) (c .before .before .before .pre .0), omega arith)
+count-kind-requires-2 c κs = ((records-accepted (c .before .before .before .args .base .now) (c .before .before .before .pre .0), omega arith), table-held (c .before .before .before .args .base .now) (c .before .before .before .pre .0))
 
 numbers-from-requires : tie.Need-numbers-from-requires Inv-loop μ-loop
 numbers-from-requires c κs =
     let base = c .before .before .before .before .args .base .now in
     let v = valid-of base (c .before .before .before .before .pre .0) in
-    (omega (arith, c .count-kind2 .ensures .0, valid-few-tasks (records base) v), omega (arith, c .before .count-kind .ensures .1, as-many base, valid-few (records base) v))
+    let s = shape base (c .before .before .before .shared-slice-known .given) (c .before .before .before .before .pre .0) in
+    ((omega (arith, c .count-kind2 .ensures .0, valid-few-tasks (records base) v), omega (arith, c .before .count-kind .ensures .0, c .count-kind2 .ensures .0, as-many base, length-split (records base) (s .split))), table-held base (c .before .before .before .before .pre .0))
 
 loop-holds : tie.Need-loop-holds Inv-loop μ-loop
 loop-holds c = (omega arith, column-none (place-at (c .before .before .before .before .before .args .base .now) (c .before .before .before .before .before .args .ids .now)))

@@ -5,7 +5,7 @@ use mathlib.Core.List.{List, []}
 use native.Mathlib.Omega.{arith}
 use borrow.Author.Needs.{needs}
 use lib.ListN.{length, getD}
-use Rattle.table.proofs.Counts.{records-accepted}
+use Rattle.table.proofs.Counts.{records-accepted, table-held}
 use Rattle.rules.specs.Records.{numberOf, secondOf, sortOf, placeOf, transactions, pairs, tasks, taskCount}
 use Rattle.rules.specs.Blocks.{recordAt, records}
 use Rattle.rules.specs.Preempt.{mapFrom}
@@ -17,7 +17,7 @@ use Rattle.preempt.specs.Bits.{withPair}
 use Rattle.preempt.specs.declared.tasks.Tasks.{Tasks}
 use Rattle.preempt.proofs.Reading.{ids-directory}
 use Rattle.preempt.proofs.Pairs.{first-below, second-below, barredTo, none-barred, all-barred, pair-marked}
-use Rattle.preempt.proofs.Accepted.{shape, names-listed, pair-record}
+use Rattle.preempt.proofs.Accepted.{shape, record-whole, names-listed, pair-record}
 use Rattle.rules.proofs.Maps.{map-length}
 use Rattle.preempt.proofs.Maps.{map-none}
 use Rattle.preempt.proofs.barred.read_barred.Statement.{statement}
@@ -82,13 +82,13 @@ counts : (rs : List (List ℕ)) (k : ℕ) (rows : List ℕ) → rows ≡ mapFrom
 counts rs k rows e = sym (ap length e ∙ map-length (taskCount rs) (barredTo rs k))
 
 count-kind-requires : tie.Need-count-kind-requires Inv-loop μ-loop
-count-kind-requires c κs = (records-accepted (c .before .before .args .image .now) (c .before .before .pre .0), omega arith)
+count-kind-requires c κs = ((records-accepted (c .before .before .args .image .now) (c .before .before .pre .0), omega arith), table-held (c .before .before .args .image .now) (c .before .before .pre .0))
 
 add-first : tie.Need-add-first Inv-loop μ-loop
 add-first c = omega (arith, c .count-kind .ensures .0, shaped c .few-transactions, c .before .before .before .pre .1 .count, shaped c .few-tasks)
 
 count-kind-requires-2 : tie.Need-count-kind-requires-2 Inv-loop μ-loop
-count-kind-requires-2 c κs = (records-accepted (c .before .before .before .args .image .now) (c .before .before .before .pre .0), omega arith)
+count-kind-requires-2 c κs = ((records-accepted (c .before .before .before .args .image .now) (c .before .before .before .pre .0), omega arith), table-held (c .before .before .before .args .image .now) (c .before .before .before .pre .0))
 
 loop-holds : tie.Need-loop-holds Inv-loop μ-loop
 loop-holds c =
@@ -100,7 +100,8 @@ add-record-at : tie.Need-add-record-at Inv-loop μ-loop
 add-record-at c = search needs
 
 record-at-requires : tie.Need-record-at-requires Inv-loop μ-loop
-record-at-requires c κs = search needs
+record-at-requires c κs =
+    record-whole (c .before .before .before .before .before .before .args .image .now) (c .before .before .before .before .before .shared-slice-known .given) (c .before .before .before .before .before .before .pre .0) (c .before .before .before .count-kind .result + c .before .before .before .before .before .before .args .tasks .count + c .before .loop .k) (omega arith)
 
 slice-aggregate-forbid : tie.Need-slice-aggregate-forbid Inv-loop μ-loop
 slice-aggregate-forbid c = counts (records (c .before .before .before .before .before .before .before .before .args .image .now)) (c .before .before .before .loop .k) (c .before .before .before .loop .rows) (c .before .before .before .loop .inv .3)

@@ -12,7 +12,7 @@ use Rattle.rules.specs.Records.{numberOf, periodOf, transactions}
 use Rattle.rules.specs.Blocks.{records}
 use Rattle.rules.specs.Numbers.{lowest}
 use Rattle.rules.proofs.Numbers.{lowest-zero, lowest-more, lowest-here}
-use Rattle.preempt.proofs.Accepted.{transaction-record}
+use Rattle.preempt.proofs.Accepted.{record-whole, transaction-record}
 use Rattle.preempt.proofs.tasks.period_in.Statement.{statement}
 use Rattle.preempt.proofs.tasks.period_in.Tie as tie
 
@@ -34,7 +34,7 @@ loop-holds : tie.Need-loop-holds Inv-loop μ-loop
 loop-holds c = (omega arith, lowest-zero _)
 
 record-at-requires : tie.Need-record-at-requires Inv-loop μ-loop
-record-at-requires c κs = search needs
+record-at-requires c κs = record-whole (c .before .before .before .args .image .now) (c .before .before .shared-slice-known .given) (c .before .before .before .pre .0) (c .before .loop .k) (omega arith)
 
 two-bytes-requires : tie.Need-two-bytes-requires Inv-loop μ-loop
 two-bytes-requires c κs = search needs

@@ -4,12 +4,12 @@ use mathlib.Core.List.{List}
 use mathlib.Core.Path.{_≡_, ap, _∙_}
 use native.Mathlib.Omega.{arith}
 use borrow.Author.Needs.{needs}
-use Rattle.table.proofs.Counts.{records-accepted}
+use Rattle.table.proofs.Counts.{records-accepted, table-held}
 use Rattle.rules.specs.declared.Task.{Task}
 use Rattle.rules.specs.Records.{taskOf, taskCount, taskAt, periodIn}
 use Rattle.rules.specs.Blocks.{records, recordAt}
 use Rattle.preempt.specs.Bits.{column}
-use Rattle.preempt.proofs.Accepted.{shape, task-record}
+use Rattle.preempt.proofs.Accepted.{shape, record-whole, task-record}
 use Rattle.preempt.proofs.Columns.{column-none, column-filled}
 use Rattle.preempt.proofs.tasks.read_tasks.Statement.{statement}
 use Rattle.preempt.proofs.tasks.read_tasks.Tie as tie
@@ -63,10 +63,10 @@ read c =
     c .task-of .ensures ∙ ap taskOf (c .before .record-at .ensures ∙ ap (λ (n : ℕ). recordAt image (n + i)) (c .before .before .before .before .before .count-kind .ensures .0) ∙ task-record image (c .before .before .before .before .before .before .shared-slice-known .given) (c .before .before .before .before .before .before .before .pre) i inside)
 
 count-kind-requires : tie.Need-count-kind-requires Inv-loop μ-loop
-count-kind-requires c κs = (records-accepted (c .before .args .image .now) (c .before .pre), omega arith)
+count-kind-requires c κs = ((records-accepted (c .before .args .image .now) (c .before .pre), omega arith), table-held (c .before .args .image .now) (c .before .pre))
 
 count-kind-requires-2 : tie.Need-count-kind-requires-2 Inv-loop μ-loop
-count-kind-requires-2 c κs = (records-accepted (c .before .before .args .image .now) (c .before .before .pre), omega arith)
+count-kind-requires-2 c κs = ((records-accepted (c .before .before .args .image .now) (c .before .before .pre), omega arith), table-held (c .before .before .args .image .now) (c .before .before .pre))
 
 loop-holds : tie.Need-loop-holds Inv-loop μ-loop
 loop-holds c =
@@ -78,7 +78,8 @@ add-record-at : tie.Need-add-record-at Inv-loop μ-loop
 add-record-at c = search needs
 
 record-at-requires : tie.Need-record-at-requires Inv-loop μ-loop
-record-at-requires c κs = search needs
+record-at-requires c κs =
+    record-whole (c .before .before .before .before .before .args .image .now) (c .before .before .before .before .shared-slice-known .given) (c .before .before .before .before .before .pre) (c .before .before .before .count-kind .result + c .before .loop .i) (omega (arith, c .before .before .count-kind2 .ensures .0))
 
 task-of-requires : tie.Need-task-of-requires Inv-loop μ-loop
 task-of-requires c κs = search needs

@@ -1,13 +1,12 @@
 -- The loop keeps the bounds of the transactions passed and their sum.
-use Rattle.table.proofs.Counts.{records-accepted}
-use Rattle.preempt.proofs.Accepted.{shape}
+use Rattle.table.proofs.Counts.{records-accepted, table-held}
 use Prim.Native.Nat.{ℕ, _*_, _-_, _≤_, _<_}
 use mathlib.Core.List.{[]}
 use mathlib.Core.Path.{_≡_, ap, subst, _∙_}
 use lib.ListN.{length, getD}
 use Rattle.rules.specs.Blocks.{records}
 use Rattle.rules.specs.Records.{numberOf, transactions as Records·transactions}
-use Rattle.preempt.proofs.Accepted.{transaction-record}
+use Rattle.preempt.proofs.Accepted.{shape, record-whole, transaction-record}
 use Rattle.stack.specs.Figures.{OwnPaths}
 use Rattle.stack.proofs.Owning.{members-inside, members-own, own-none, own-more}
 use native.Mathlib.Omega.{arith}
@@ -22,7 +21,7 @@ abbrev μ-loop : tie.MeasureT-loop
 μ-loop image numbers rows sizes order count transactions total₀ t₀ total t = transactions - t
 
 count-kind-requires : tie.Need-count-kind-requires Inv-loop μ-loop
-count-kind-requires c κs = (records-accepted (c .before .before .before .before .before .args .image .now) (c .before .before .before .before .before .pre .0), omega arith)
+count-kind-requires c κs = ((records-accepted (c .before .before .before .before .before .args .image .now) (c .before .before .before .before .before .pre .0), omega arith), table-held (c .before .before .before .before .before .args .image .now) (c .before .before .before .before .before .pre .0))
 
 loop-holds : tie.Need-loop-holds Inv-loop μ-loop
 loop-holds c =
@@ -30,7 +29,8 @@ loop-holds c =
     (omega arith, omega arith, own-none (a .count) (a .rows .now) (a .sizes .now) (a .numbers .now) (Records·transactions (records (a .image .now))))
 
 record-at-requires : tie.Need-record-at-requires Inv-loop μ-loop
-record-at-requires c κs = search needs
+record-at-requires c κs =
+    record-whole (c .before .before .before .before .before .before .before .before .args .image .now) (c .before .before .before .before .before .before .before .shared-slice-known .given) (c .before .before .before .before .before .before .before .before .pre .0) (c .before .loop .t) (omega (arith, c .before .before .count-kind .ensures .0, c .loop-test .taken))
 
 two-bytes-requires : tie.Need-two-bytes-requires Inv-loop μ-loop
 two-bytes-requires c κs = search needs

@@ -1,5 +1,5 @@
 -- The records of a kind are those from its start to the next kind's.
-use Prim.Native.Nat.{ℕ, _+_, _-_, _≤_}
+use Prim.Native.Nat.{_-_, _≤_}
 use mathlib.Core.Path.{_≡_, sym}
 use native.Mathlib.Omega.{arith}
 use lib.ListN.{length}
@@ -15,7 +15,7 @@ use Rattle.table.proofs.count.count_kind.Tie as tie
 counted : (c : tie.After-kind-start2) → (c .kind-start2 .result ≤ c .before .kind-start .result) × (length (ofKind (c .before .before .before .args .kind) (records (c .before .before .before .args .image .now))) ≡ c .before .kind-start .result - c .kind-start2 .result)
 counted c =
     kind-counted (records (c .before .before .before .args .image .now)) (c .before .before .before .args .kind) (c .kind-start2 .result) (c .before .kind-start .result)
-    (kinds-grouped (c .before .before .before .args .image .now) (λ k. c .before .before .shared-slice-known .given k .fits) (c .before .before .before .pre .0))
+    (kinds-grouped (c .before .before .before .args .image .now) (λ k. c .before .before .shared-slice-known .given k .fits) (c .before .before .before .pre .0 .0))
     (c .kind-start2 .ensures) (c .before .kind-start .ensures)
 
 add-kind-start : tie.Need-add-kind-start

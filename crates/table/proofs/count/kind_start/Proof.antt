@@ -5,7 +5,7 @@ use mathlib.Core.List.{List, []}
 use native.Mathlib.Omega.{arith}
 use borrow.Author.Count.{below-more}
 use borrow.Author.Needs.{needs}
-use lib.ListN.{length, getD}
+use lib.ListN.{getD}
 use Rattle.rules.specs.Blocks.{records, recordAt, recordCount}
 use Rattle.rules.specs.Records.{kindOf}
 use Rattle.rules.proofs.Numbers.{length-upTo, getD-upTo}
@@ -59,7 +59,7 @@ loop-again c =
     let inside : middle < recordCount image = omega (arith, s .inv .1, c .before .before .before .loop-test .taken) in
     let here = read image middle (c .before .byte-at .result) (c .before .before .record-at .result .now) inside (c .before .before .record-at .ensures) (c .before .byte-at .ensures .0) in
     let lower : kind-at image middle < c .before .before .before .before .before .before .before .args .kind = omega (arith, here, c .if1 .taken) in
-    let grouped = kinds-grouped image (λ k. c .before .before .before .before .before .before .shared-slice-known .given k .fits) (c .before .before .before .before .before .before .before .pre) in
+    let grouped = kinds-grouped image (λ k. c .before .before .before .before .before .before .shared-slice-known .given k .fits) (c .before .before .before .before .before .before .before .pre .0) in
     let many = length-upTo (recordAt image) (recordCount image) in
     (omega (arith, c .before .before .before .loop-test .taken), s .inv .1, below-more (λ k. kind-at image k < c .before .before .before .before .before .before .before .args .kind) middle (λ k h. omega (arith, grouped k middle h (omega arith))) lower, s .inv .3)
 

@@ -7,7 +7,8 @@ use lib.ListN.{getD}
 use Rattle.rules.specs.Numbers.{lowest}
 use Rattle.rules.specs.Blocks.{records, recordAt, recordCount}
 use Rattle.rules.specs.Records.{referenceWrong}
-use Rattle.rules.proofs.Numbers.{lowest-more, lowest-here, lowest-zero, getD-upTo}
+use Rattle.rules.proofs.Numbers.{lowest-more, lowest-here, lowest-zero, length-upTo, getD-upTo}
+use Rattle.rules.proofs.Table.Kinds.{length-split}
 use Rattle.table.proofs.Places.{transactions-directory, tasks-directory, shape}
 use native.Mathlib.Omega.{arith}
 use borrow.Author.Needs.{needs}
@@ -31,12 +32,16 @@ count-kind-requires-2 : tie.Need-count-kind-requires-2 Inv-loop μ-loop
 count-kind-requires-2 c κs = search needs
 
 numbers-from-requires : tie.Need-numbers-from-requires Inv-loop μ-loop
-numbers-from-requires c κs = omega (arith, c .before .count-kind .ensures .0, shape (c .before .before .before .args .image .now) (λ k. c .before .before .shared-slice-known .given k .fits) (c .before .before .before .pre) .few-transactions)
+numbers-from-requires c κs =
+    let s = shape (c .before .before .before .args .image .now) (λ k. c .before .before .shared-slice-known .given k .fits) (c .before .before .before .pre .0) in
+    ((omega (arith, c .before .count-kind .ensures .0, s .few-transactions), omega (arith, c .before .count-kind .ensures .1)), c .before .before .before .pre .1)
 
 numbers-from-requires-2 : tie.Need-numbers-from-requires-2 Inv-loop μ-loop
 numbers-from-requires-2 c κs =
-    let s = shape (c .before .before .before .before .args .image .now) (λ k. c .before .before .before .shared-slice-known .given k .fits) (c .before .before .before .before .pre) in
-    omega (arith, c .before .before .count-kind .ensures .0, c .before .count-kind2 .ensures .0)
+    let image = c .before .before .before .before .args .image .now in
+    let s = shape image (λ k. c .before .before .before .shared-slice-known .given k .fits) (c .before .before .before .before .pre .0) in
+    let many = length-upTo (recordAt image) (recordCount image) in
+    ((omega (arith, c .before .count-kind2 .ensures .0, s .few-tasks), omega (arith, c .before .before .count-kind .ensures .0, c .before .count-kind2 .ensures .0, length-split (records image) (s .split), many)), c .before .before .before .before .pre .1)
 
 record-count-requires : tie.Need-record-count-requires Inv-loop μ-loop
 record-count-requires c κs = search needs
@@ -57,7 +62,7 @@ record-at-requires c κs = search needs
 is-reference-wrong-requires : tie.Need-is-reference-wrong-requires Inv-loop μ-loop
 is-reference-wrong-requires c κs =
     let image = c .before .before .before .before .before .before .before .before .before .before .before .args .image .now in
-    (c .before .before .before .before .before .before .before .before .before .before .before .pre, (transactions-directory image (λ k. c .before .before .before .before .before .before .before .before .before .before .shared-slice-known .given k .fits) (c .before .before .before .before .before .before .before .before .before .before .before .pre) (c .before .before .before .before .before .before .before .numbers-from .result) (c .before .before .before .before .before .before .before .before .before .count-kind .result) (c .before .before .before .before .before .before .before .numbers-from .ensures) (c .before .before .before .before .before .before .before .before .before .count-kind .ensures .0), tasks-directory image (λ k. c .before .before .before .before .before .before .before .before .before .before .shared-slice-known .given k .fits) (c .before .before .before .before .before .before .before .before .before .before .before .pre) (c .before .before .before .before .before .before .numbers-from2 .result) (c .before .before .before .before .before .before .before .before .before .count-kind .result) (c .before .before .before .before .before .before .before .before .count-kind2 .result) (c .before .before .before .before .before .before .numbers-from2 .ensures) (c .before .before .before .before .before .before .before .before .before .count-kind .ensures .0) (c .before .before .before .before .before .before .before .before .count-kind2 .ensures .0)))
+    (c .before .before .before .before .before .before .before .before .before .before .before .pre .0, (transactions-directory image (λ k. c .before .before .before .before .before .before .before .before .before .before .shared-slice-known .given k .fits) (c .before .before .before .before .before .before .before .before .before .before .before .pre .0) (c .before .before .before .before .before .before .before .numbers-from .result) (c .before .before .before .before .before .before .before .before .before .count-kind .result) (c .before .before .before .before .before .before .before .numbers-from .ensures) (c .before .before .before .before .before .before .before .before .before .count-kind .ensures .0), (tasks-directory image (λ k. c .before .before .before .before .before .before .before .before .before .before .shared-slice-known .given k .fits) (c .before .before .before .before .before .before .before .before .before .before .before .pre .0) (c .before .before .before .before .before .before .numbers-from2 .result) (c .before .before .before .before .before .before .before .before .before .count-kind .result) (c .before .before .before .before .before .before .before .before .count-kind2 .result) (c .before .before .before .before .before .before .numbers-from2 .ensures) (c .before .before .before .before .before .before .before .before .before .count-kind .ensures .0) (c .before .before .before .before .before .before .before .before .count-kind2 .ensures .0), c .before .before .before .before .before .before .before .before .before .before .before .pre .1)))
 
 returns : tie.Need-returns Inv-loop μ-loop
 returns c =

@@ -1,8 +1,10 @@
 -- A refused frame hides what comes after it.
+use mathlib.Core.Bool.{true}
+use mathlib.Core.Path.{_≡_}
 use borrow.Author.Tests.{eq-eqb, ne-eqb}
 use Rattle.rules.specs.declared.Form.the-variants.{Patch}
-use Rattle.rules.specs.Refusals.{patchVerdict}
-use Rattle.table.proofs.Counts.{records-few}
+use Rattle.rules.specs.Refusals.{accepted, frameVerdict, patchVerdict}
+use Rattle.table.proofs.Counts.{records-few, records-held}
 use borrow.Author.Needs.{needs}
 use Rattle.table.proofs.verdict.patch_verdict.Statement.{statement}
 use Rattle.table.proofs.verdict.patch_verdict.Tie as tie
@@ -15,7 +17,10 @@ unfolding patchVerdict
 returns c = rw (← c .before .before .frame-verdict .ensures, ne-eqb _ _ (c .if1 .taken))
 
 records-verdict-requires : tie.Need-records-verdict-requires
-records-verdict-requires c κs = records-few Patch (c .before .before .before .before .args .image .now) (rw (← c .before .before .frame-verdict .ensures) (eq-eqb _ _ (c .if1 .left)))
+records-verdict-requires c κs =
+    let image = c .before .before .before .before .args .image .now in
+    let framed : accepted (frameVerdict Patch image) ≡ true = rw (← c .before .before .frame-verdict .ensures) (eq-eqb _ _ (c .if1 .left)) in
+    (records-few Patch image framed, records-held Patch image framed)
 
 returns-2 : tie.Need-returns-2
 unfolding patchVerdict
