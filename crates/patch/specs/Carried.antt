@@ -13,11 +13,23 @@ use Rattle.preempt.specs.declared.tasks.Tasks.{Tasks}
 use Rattle.patch.specs.declared.carried.Carried.{Carried}
 use Rattle.patch.specs.declared.carried.Decision.{Decision}
 
+-- the decision for the row's task and another, at place j
+abbrev pub decidedIn : Decision → Task → ℕ → Bool
+decidedIn d high j = mayPreempt (d .period) (bitAt (d .bars) j) (d .low) high
+
+-- a cell of an untouched task's row: with a touched task it is decided, and any other is the row's before, at the old place
+unfoldable pub cellCarried : Decision → Task → ℕ → List ℕ → ℕ → ℕ → Bool
+cellCarried d high touched old before j = cond (bitAt touched j) (decidedIn d high j) (bitAt before (getD old j 0))
+
+-- a cell of any row: of a touched task's, each is decided
+unfoldable pub cellOf : Decision → Task → ℕ → List ℕ → ℕ → ℕ → Bool
+cellOf d high touched old before j = cond (d .whole) (decidedIn d high j) (cellCarried d high touched old before j)
+
 -- a cell with a touched task is decided, and any other is the lent map's at the two old places
-unfoldable pub cellCarried : Decision → Task → ℕ → List ℕ → List ℕ → ℕ → ℕ → Bool
-cellCarried d high touched old rows i j =
+unfoldable pub cellNew : ℕ → ℕ → (ℕ → Task) → ℕ → List ℕ → List ℕ → ℕ → ℕ → Bool
+cellNew period bars task touched old rows i j =
     cond (bitAt touched i || bitAt touched j)
-    (mayPreempt (d .period) (bitAt (d .bars) j) (d .low) high)
+    (mayPreempt period (bitAt bars j) (task i) (task j))
     (cell rows (getD old i 0) (getD old j 0))
 
 -- the same from the tasks and the forbidden pairs as they were read

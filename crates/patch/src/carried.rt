@@ -5,19 +5,21 @@ ghost use Prim.Native.Nat.{_≤_, _<_};
 ghost use lib.ListN.{length, getD};
 ghost use Rattle.rules.specs.Blocks.{records};
 ghost use Rattle.rules.specs.Records.{tasks as Records·tasks, placeOf};
-ghost use Rattle.rules.specs.Preempt.{cell, rowFrom, mapFrom};
+ghost use Rattle.rules.specs.Preempt.{rowFrom, mapFrom};
 ghost use Rattle.rules.specs.Patches.{outcome};
 ghost use Rattle.rules.specs.Refusals.{accepted, tableVerdict};
 ghost use Rattle.image.specs.Held.{HoldsRecords};
-ghost use Rattle.preempt.specs.Bits.{column};
-ghost use Rattle.patch.specs.Carried.{cellCarried, carriedBy, MapCarried};
+ghost use Rattle.preempt.specs.Bits.{bitAt, column};
+ghost use Rattle.preempt.specs.Tasks.{timedAt};
+ghost use Rattle.patch.specs.Carried.{cellCarried, cellOf, cellNew, carriedBy, MapCarried};
 use crate::touched::count_places;
 use crate::touched::touched_tasks;
 use preempt::barred::read_barred;
 use preempt::bits::is_set;
 use preempt::bits::power;
 use preempt::decide::may_preempt;
-use preempt::map::task_at;
+use preempt::map::row;
+use preempt::map::timed_at;
 use preempt::tasks::Tasks;
 use preempt::tasks::read_tasks;
 use rules::Task;
@@ -31,12 +33,13 @@ pub struct Carried {
     pub touched: u32,
 }
 
-// What the decisions of one row share: the period of its task's transaction, the bits of the tasks that a pair bars, and
-// the task itself.
+// What the decisions of one row share: the period of its task's transaction, the bits of the tasks that a pair bars, the
+// task itself, and whether each cell of the row is decided, because that task is touched.
 pub struct Decision {
     pub period: u32,
     pub bars: u64,
     pub low: Task,
+    pub whole: bool,
 }
 
 // Where the base has the tasks with these ids; the number of its tasks where it has none.
@@ -57,42 +60,41 @@ fn old_places(base: &[u8], ids: &[u32], count: usize) -> [u32; 64]
     places
 }
 
-// Whether a lent map has a cell set. It has none beyond its rows and beyond 64 cells.
-fn is_cell_set(rows: &[u64], row: u32, place: u32) -> bool
-    ensures { λ r. ⌜ r ≡ cell (now (rows .entry)) row place ⌝ }
+// The row of a lent map at a place. A row that it does not have is 0.
+fn row_before(rows: &[u64], place: u32) -> u64
+    ensures { λ r. ⌜ r ≡ getD (now (rows .entry)) place 0 ⌝ }
 {
-    let i = row as usize;
-    let j = place as usize;
+    let i = place as usize;
     if rows.len() <= i {
-        return false;
+        return 0;
     }
+    rows[i]
+}
+
+// Whether a row has a cell set. It has none beyond 64 cells.
+fn is_cell_set(bits: u64, place: u32) -> bool
+    ensures { λ r. ⌜ r ≡ bitAt bits place ⌝ }
+{
+    let j = place as usize;
     if 64 <= j {
         return false;
     }
-    is_set(rows[i], j)
+    is_set(bits, j)
 }
 
-// Whether cell j of row i of the new map is set: with a touched task it is decided, and any other is the lent map's.
+// Whether cell j is set in the new row of an untouched task: with a touched task it is decided, and any other is that of
+// the row before, which has it where the other task stood.
 fn is_carried_set(
     decision: Decision,
     high: Task,
     touched: u64,
     old: &[u32],
-    rows: &[u64],
-    i: usize,
+    before: u64,
     j: usize,
 ) -> bool
-    requires { ⌜ (i < 64) × ((j < 64) × (64 ≤ length (now old))) ⌝ }
-    ensures { λ r. ⌜ r ≡ cellCarried decision high touched (now (old .entry)) (now (rows .entry)) i j ⌝ }
+    requires { ⌜ (j < 64) × (64 ≤ length (now old)) ⌝ }
+    ensures { λ r. ⌜ r ≡ cellCarried decision high touched (now (old .entry)) before j ⌝ }
 {
-    if is_set(touched, i) {
-        return may_preempt(
-            decision.period,
-            is_set(decision.bars, j),
-            decision.low,
-            high,
-        );
-    }
     if is_set(touched, j) {
         return may_preempt(
             decision.period,
@@ -101,47 +103,91 @@ fn is_carried_set(
             high,
         );
     }
-    is_cell_set(rows, old[i], old[j])
+    let place = old[j];
+    is_cell_set(before, place)
 }
 
-// Row i of the new map.
+// One row of the new map from the row before. Whether its task is touched is asked once for all its cells.
 fn carried_row(
-    tasks: Tasks,
-    barred: [u64; 64],
+    transactions: &[u32; 64],
+    priorities: &[u32; 64],
+    offsets: &[u32; 64],
+    jitters: &[u32; 64],
+    responses: &[u32; 64],
+    count: usize,
+    decision: Decision,
+    touched: u64,
+    old: &[u32],
+    before: u64,
+) -> u64
+    requires { ⌜ (count ≤ 64) × (64 ≤ length (now old)) ⌝ }
+    ensures { λ r. ⌜ r ≡ rowFrom count (λ j. cellOf decision (timedAt (now (transactions .entry)) (now (priorities .entry)) (now (offsets .entry)) (now (jitters .entry)) (now (responses .entry)) j) touched (now (old .entry)) before j) ⌝ }
+{
+    if decision.whole {
+        return row(
+            transactions,
+            priorities,
+            offsets,
+            jitters,
+            responses,
+            count,
+            decision.period,
+            decision.bars,
+            decision.low,
+        );
+    }
+    let mut bits: u64 = 0;
+    let mut j: usize = 0;
+    while j < count {
+        let high = timed_at(transactions, priorities, offsets, jitters, responses, j);
+        if is_carried_set(decision, high, touched, old, before, j) {
+            bits += power(j);
+        }
+        j += 1;
+    }
+    bits
+}
+
+// Row i of the new map, for the task at place i with this period and these bars.
+fn new_row(
+    transactions: &[u32; 64],
+    priorities: &[u32; 64],
+    offsets: &[u32; 64],
+    jitters: &[u32; 64],
+    responses: &[u32; 64],
+    count: usize,
+    period: u32,
+    bars: u64,
     touched: u64,
     old: &[u32],
     rows: &[u64],
     i: usize,
 ) -> u64
-    requires { ⌜ (i < 64) × ((tasks .count ≤ 64) × (64 ≤ length (now old))) ⌝ }
-    ensures { λ r. ⌜ r ≡ rowFrom (tasks .count) (carriedBy tasks barred touched (now (old .entry)) (now (rows .entry)) i) ⌝ }
+    requires { ⌜ (i < 64) × ((count ≤ 64) × (64 ≤ length (now old))) ⌝ }
+    ensures { λ r. ⌜ r ≡ rowFrom count (cellNew period bars (timedAt (now (transactions .entry)) (now (priorities .entry)) (now (offsets .entry)) (now (jitters .entry)) (now (responses .entry))) touched (now (old .entry)) (now (rows .entry)) i) ⌝ }
 {
+    let low = timed_at(transactions, priorities, offsets, jitters, responses, i);
     let decision = Decision {
-        period: tasks.periods[i],
-        bars: barred[i],
-        low: task_at(tasks, i),
+        period,
+        bars,
+        low,
+        whole: is_set(touched, i),
     };
-    let mut row: u64 = 0;
-    let mut j: usize = 0;
-    while j < tasks.count {
-        let high = Task {
-            id: tasks.ids[j],
-            transaction: tasks.transactions[j],
-            priority: tasks.priorities[j],
-            offset: tasks.offsets[j],
-            jitter: tasks.jitters[j],
-            response: tasks.responses[j],
-            size: tasks.sizes[j],
-        };
-        if is_carried_set(decision, high, touched, old, rows, i, j) {
-            row += power(j);
-        }
-        j += 1;
-    }
-    row
+    carried_row(
+        transactions,
+        priorities,
+        offsets,
+        jitters,
+        responses,
+        count,
+        decision,
+        touched,
+        old,
+        row_before(rows, old[i]),
+    )
 }
 
-// The rows of the new map.
+// The rows of the new map. The arrays are taken out of the tasks once, and each row is lent them.
 fn carried_rows(
     tasks: Tasks,
     barred: [u64; 64],
@@ -152,10 +198,28 @@ fn carried_rows(
     requires { ⌜ (tasks .count ≤ 64) × (64 ≤ length (now old)) ⌝ }
     ensures { λ r. ⌜ r ≡ mapFrom (tasks .count) (carriedBy tasks barred touched (now (old .entry)) (now (rows .entry))) ⌝ }
 {
+    let transactions = tasks.transactions;
+    let priorities = tasks.priorities;
+    let offsets = tasks.offsets;
+    let jitters = tasks.jitters;
+    let responses = tasks.responses;
     let mut map = [0u64; 64];
     let mut i: usize = 0;
     while i < tasks.count {
-        map[i] = carried_row(tasks, barred, touched, old, rows, i);
+        map[i] = new_row(
+            &transactions,
+            &priorities,
+            &offsets,
+            &jitters,
+            &responses,
+            tasks.count,
+            tasks.periods[i],
+            barred[i],
+            touched,
+            old,
+            rows,
+            i,
+        );
         i += 1;
     }
     map

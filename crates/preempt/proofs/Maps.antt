@@ -1,4 +1,4 @@
--- Laws of maps: a map is a column of rows, and one more of its cells may be set.
+-- Laws of maps: a map is a column of rows, one more of its cells may be set, and a cell asks neither id nor size.
 use Prim.Native.Nat.{ℕ, _^_, _≤_, _<_}
 use mathlib.Core.List.{List}
 use mathlib.Core.Bool.{Bool, true, false, cond, _&&_, _||_, or-false}
@@ -9,11 +9,14 @@ use lib.Bits.{bitOr, or-lt}
 use lib.Dec.{ltb, eqb}
 use lib.ListN.{getD, set, replicate}
 use lib.Pow.{pow-lt}
-use Rattle.rules.specs.Preempt.{rowFrom, mapFrom}
+use Rattle.rules.specs.declared.Task.{Task}
+use Rattle.rules.specs.Preempt.{mayPreempt, rowFrom, mapFrom}
 use Rattle.rules.proofs.Numbers.{either, sumTo-ext}
 use Rattle.rules.proofs.Bits.{bit-of-power, bit-or, bits-at, bits-small, bits-none, bits-made}
 use Rattle.rules.proofs.Maps.{rowTest, map-row, row-ext, map-ext}
+use Rattle.preempt.specs.declared.tasks.Tasks.{Tasks}
 use Rattle.preempt.specs.Bits.{bitAt, column, marked, withPair}
+use Rattle.preempt.specs.Tasks.{timedAt, decidedBy}
 use Rattle.preempt.proofs.Columns.{column-zero, column-set}
 
 -- a map is a column of rows
@@ -78,3 +81,13 @@ one-or-both n test false a b most h l =
 pub map-with-pair : (n : ℕ) (test : ℕ → ℕ → Bool) (sort a b : ℕ) → n ≤ 64 → a < n → b < n
     → withPair (mapFrom n test) sort a b ≡ mapFrom n (λ i j. test i j || ((eqb i a && eqb j b) || (eqb sort 1 && (eqb j a && eqb i b))))
 map-with-pair n test sort a b most h l = one-or-both n test (eqb sort 1) a b most h l
+
+-- the task at a place with the fields that a decision asks for, as they were read
+abbrev pub timedIn : Tasks → ℕ → Task
+timedIn t = timedAt (t .transactions) (t .priorities) (t .offsets) (t .jitters) (t .responses)
+
+-- a decision asks neither id nor size, so these fields are enough for it
+pub decided-timed : (t : Tasks) (rows : List ℕ) (i j : ℕ)
+    → mayPreempt (getD (t .periods) i 0) (bitAt (getD rows i 0) j) (timedIn t i) (timedIn t j) ≡ decidedBy t rows i j
+unfolding mayPreempt decidedBy
+decided-timed t rows i j = refl

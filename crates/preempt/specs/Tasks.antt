@@ -39,6 +39,19 @@ taskIn t i =
       size = getD (t .sizes) i 0;
     }
 
+-- the task at a place from the fields that a decision asks for; it asks neither id nor size, which are 0
+abbrev pub timedAt : List ℕ → List ℕ → List ℕ → List ℕ → List ℕ → ℕ → Task
+timedAt transactions priorities offsets jitters responses i =
+    record {
+      id = 0;
+      transaction = getD transactions i 0;
+      priority = getD priorities i 0;
+      offset = getD offsets i 0;
+      jitter = getD jitters i 0;
+      response = getD responses i 0;
+      size = 0;
+    }
+
 -- the decision for two places, from the tasks and the forbidden pairs as they were read
 unfoldable pub decidedBy : Tasks → List ℕ → ℕ → ℕ → Bool
 decidedBy t rows i j = mayPreempt (getD (t .periods) i 0) (cell rows i j) (taskIn t i) (taskIn t j)

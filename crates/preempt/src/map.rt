@@ -4,10 +4,11 @@ ghost use mathlib.Core.Bool.{true};
 ghost use Prim.Native.Nat.{_≤_, _<_};
 ghost use lib.ListN.{length};
 ghost use Rattle.rules.specs.Blocks.{records};
-ghost use Rattle.rules.specs.Preempt.{rowFrom, mapFrom, mapOf};
+ghost use Rattle.rules.specs.Preempt.{mayPreempt, rowFrom, mapFrom, mapOf};
 ghost use Rattle.rules.specs.Refusals.{accepted, tableVerdict};
 ghost use Rattle.rules.specs.Calls.{over, mapVerdict, mapAfter};
-ghost use Rattle.preempt.specs.Tasks.{taskIn, decidedBy};
+ghost use Rattle.preempt.specs.Bits.{bitAt};
+ghost use Rattle.preempt.specs.Tasks.{timedAt, decidedBy};
 use crate::barred::read_barred;
 use crate::bits::is_set;
 use crate::bits::power;
@@ -18,43 +19,49 @@ use rules::Task;
 use rules::Verdict;
 use table::table_verdict;
 
-// The task at a place.
-pub fn task_at(tasks: Tasks, i: usize) -> Task
+// The task at a place, with what a decision asks of it.
+pub fn timed_at(
+    transactions: &[u32; 64],
+    priorities: &[u32; 64],
+    offsets: &[u32; 64],
+    jitters: &[u32; 64],
+    responses: &[u32; 64],
+    i: usize,
+) -> Task
     requires { ⌜ i < 64 ⌝ }
-    ensures { λ r. ⌜ r ≡ taskIn tasks i ⌝ }
+    ensures { λ r. ⌜ r ≡ timedAt (now (transactions .entry)) (now (priorities .entry)) (now (offsets .entry)) (now (jitters .entry)) (now (responses .entry)) i ⌝ }
 {
     Task {
-        id: tasks.ids[i],
-        transaction: tasks.transactions[i],
-        priority: tasks.priorities[i],
-        offset: tasks.offsets[i],
-        jitter: tasks.jitters[i],
-        response: tasks.responses[i],
-        size: tasks.sizes[i],
+        id: 0,
+        transaction: transactions[i],
+        priority: priorities[i],
+        offset: offsets[i],
+        jitter: jitters[i],
+        response: responses[i],
+        size: 0,
     }
 }
 
-// Row i of the map: a bit for each task that may preempt the one at place i. What the row shares is read once, and the
-// tasks are read where they lie, so that no decision copies them.
-fn row(tasks: Tasks, barred: [u64; 64], i: usize) -> u64
-    requires { ⌜ (i < 64) × (tasks .count ≤ 64) ⌝ }
-    ensures { λ r. ⌜ r ≡ rowFrom (tasks .count) (decidedBy tasks barred i) ⌝ }
+// One row of the map: a bit for each task that may preempt the row's own, the low one. The tasks are read where they lie, so
+// that no row copies them.
+pub fn row(
+    transactions: &[u32; 64],
+    priorities: &[u32; 64],
+    offsets: &[u32; 64],
+    jitters: &[u32; 64],
+    responses: &[u32; 64],
+    count: usize,
+    period: u32,
+    bars: u64,
+    low: Task,
+) -> u64
+    requires { ⌜ count ≤ 64 ⌝ }
+    ensures { λ r. ⌜ r ≡ rowFrom count (λ j. mayPreempt period (bitAt bars j) low (timedAt (now (transactions .entry)) (now (priorities .entry)) (now (offsets .entry)) (now (jitters .entry)) (now (responses .entry)) j)) ⌝ }
 {
-    let period = tasks.periods[i];
-    let bars = barred[i];
-    let low = task_at(tasks, i);
     let mut row: u64 = 0;
     let mut j: usize = 0;
-    while j < tasks.count {
-        let high = Task {
-            id: tasks.ids[j],
-            transaction: tasks.transactions[j],
-            priority: tasks.priorities[j],
-            offset: tasks.offsets[j],
-            jitter: tasks.jitters[j],
-            response: tasks.responses[j],
-            size: tasks.sizes[j],
-        };
+    while j < count {
+        let high = timed_at(transactions, priorities, offsets, jitters, responses, j);
         if may_preempt(period, is_set(bars, j), low, high) {
             row += power(j);
         }
@@ -63,15 +70,39 @@ fn row(tasks: Tasks, barred: [u64; 64], i: usize) -> u64
     row
 }
 
-// The map of the tasks, where the bits of barred say which pairs of places are forbidden.
+// The map of the tasks, where the bits of barred say which pairs of places are forbidden. The arrays are taken out of the
+// tasks once, and each row is lent them.
 pub fn map_of(tasks: Tasks, barred: [u64; 64]) -> [u64; 64]
     requires { ⌜ tasks .count ≤ 64 ⌝ }
     ensures { λ r. ⌜ r ≡ mapFrom (tasks .count) (decidedBy tasks barred) ⌝ }
 {
+    let transactions = tasks.transactions;
+    let priorities = tasks.priorities;
+    let offsets = tasks.offsets;
+    let jitters = tasks.jitters;
+    let responses = tasks.responses;
     let mut rows = [0u64; 64];
     let mut i: usize = 0;
     while i < tasks.count {
-        rows[i] = row(tasks, barred, i);
+        let low = timed_at(
+            &transactions,
+            &priorities,
+            &offsets,
+            &jitters,
+            &responses,
+            i,
+        );
+        rows[i] = row(
+            &transactions,
+            &priorities,
+            &offsets,
+            &jitters,
+            &responses,
+            tasks.count,
+            tasks.periods[i],
+            barred[i],
+            low,
+        );
         i += 1;
     }
     rows

@@ -18,37 +18,18 @@ returns : tie.Need-returns
 unfolding cellCarried
 returns c = rw (sym (c .before .before .before .is-set .ensures) ∙ c .before .before .if1 .taken, ← c .before .is-set2 .ensures) (c .may-preempt .ensures)
 
-is-set-requires-3 : tie.Need-is-set-requires-3
-is-set-requires-3 c κs = search needs
+mul-place : tie.Need-mul-place
+mul-place c = search needs
 
-is-set-requires-4 : tie.Need-is-set-requires-4
-is-set-requires-4 c κs = search needs
-
-may-preempt-requires-2 : tie.Need-may-preempt-requires-2
-may-preempt-requires-2 c κs = search needs
-
-returns-2 : tie.Need-returns-2
-unfolding cellCarried
-returns-2 c = rw (sym (c .before .before .before .before .before .is-set .ensures) ∙ c .before .before .before .before .if1 .left, sym (c .before .before .before .is-set3 .ensures) ∙ c .before .before .if2 .taken, ← c .before .is-set4 .ensures) (c .may-preempt2 .ensures)
-
-mul-is-cell-set : tie.Need-mul-is-cell-set
-mul-is-cell-set c = search needs
-
-shared-slice-read-is-cell-set : tie.Need-shared-slice-read-is-cell-set
-shared-slice-read-is-cell-set c = search needs
-
-mul-is-cell-set-2 : tie.Need-mul-is-cell-set-2
-mul-is-cell-set-2 c = search needs
-
-shared-slice-read-is-cell-set-2 : tie.Need-shared-slice-read-is-cell-set-2
-shared-slice-read-is-cell-set-2 c = search needs
+shared-slice-read-place : tie.Need-shared-slice-read-place
+shared-slice-read-place c = search needs
 
 is-cell-set-requires : tie.Need-is-cell-set-requires
 is-cell-set-requires c κs = search needs
 
-returns-3 : tie.Need-returns-3
+returns-2 : tie.Need-returns-2
 unfolding cellCarried
-returns-3 c = rw (sym (c .before .before .before .before .before .before .is-set .ensures) ∙ c .before .before .before .before .before .if1 .left, sym (c .before .before .before .before .is-set3 .ensures) ∙ c .before .before .before .if2 .left) (c .is-cell-set .ensures)
+returns-2 c = rw (sym (c .before .before .before .is-set .ensures) ∙ c .before .before .if1 .left) (c .is-cell-set .ensures)
 
 pub is-carried-set-spec : {M : Type 1} → statement M
 is-carried-set-spec =
@@ -58,13 +39,7 @@ is-carried-set-spec =
     is-set-requires-2
     may-preempt-requires
     returns
-    is-set-requires-3
-    is-set-requires-4
-    may-preempt-requires-2
-    returns-2
-    mul-is-cell-set
-    shared-slice-read-is-cell-set
-    mul-is-cell-set-2
-    shared-slice-read-is-cell-set-2
+    mul-place
+    shared-slice-read-place
     is-cell-set-requires
-    returns-3)
+    returns-2)
