@@ -233,8 +233,8 @@ pub fn carry_map(base: &[u8], patch: &[u8], image: &[u8], rows: &[u64]) -> Carri
     ensures { λ r. ⌜ MapCarried (records (now (base .entry))) (records (now (patch .entry))) (now (rows .entry)) r ⌝ }
 {
     let tasks = read_tasks(image);
-    let barred = read_barred(image, tasks);
     let ids = tasks.ids;
+    let barred = read_barred(image, &ids, tasks.count);
     let transactions = tasks.transactions;
     let touched = touched_tasks(patch, &ids, &transactions, tasks.count);
     let old = old_places(base, &ids, tasks.count);

@@ -4,13 +4,12 @@ ghost use mathlib.Core.Bool.{true};
 ghost use Prim.Native.Nat.{_≤_, _<_};
 ghost use lib.ListN.{length};
 ghost use Rattle.rules.specs.Blocks.{records};
-ghost use Rattle.rules.specs.Records.{numberOf, secondOf, sortOf};
+ghost use Rattle.rules.specs.Records.{numberOf, secondOf, sortOf, tasks};
 ghost use Rattle.rules.specs.Refusals.{accepted, tableVerdict};
-ghost use Rattle.table.specs.Numbers.{Rising, placeAmong};
+ghost use Rattle.table.specs.Numbers.{Rising, placeAmong, Directory};
 ghost use Rattle.preempt.specs.Bits.{marked, withPair};
-ghost use Rattle.preempt.specs.Tasks.{TasksRead, barredMap};
+ghost use Rattle.preempt.specs.Tasks.{barredMap};
 use crate::bits::with_bit;
-use crate::tasks::Tasks;
 use image::bytes::byte_at;
 use image::bytes::two_bytes;
 use image::records::record_at;
@@ -39,21 +38,20 @@ fn forbid(rows: &mut [u64], ids: &[u32], known: usize, fields: &[u8])
     }
 }
 
-// The forbidden pairs of an accepted table: cell j of row i is set where a pair forbids that the task at place i is preempted by the one at place j.
-pub fn read_barred(image: &[u8], tasks: Tasks) -> [u64; 64]
+// The forbidden pairs of an accepted table, whose tasks have these ids: cell j of row i is set where a pair forbids that
+// the task at place i is preempted by the one at place j.
+pub fn read_barred(image: &[u8], ids: &[u32], known: usize) -> [u64; 64]
     requires { ⌜ accepted (tableVerdict (now image)) ≡ true ⌝ }
-    requires { ⌜ TasksRead (records (now image)) tasks ⌝ }
+    requires { ⌜ Directory (tasks (records (now image))) (now ids) known ⌝ }
     ensures { λ r. ⌜ r ≡ barredMap (records (now (image .entry))) ⌝ }
 {
-    let known = tasks.count;
-    let ids = tasks.ids;
     let first = count_kind(image, 1) + known;
     let count = count_kind(image, 3);
     let mut rows = [0u64; 64];
     let mut k: usize = 0;
     while k < count {
         let fields = record_at(image, first + k);
-        forbid(&mut rows, &ids, known, fields);
+        forbid(&mut rows, ids, known, fields);
         k += 1;
     }
     rows

@@ -126,7 +126,8 @@ pub fn table_map(image: &[u8]) -> [u64; 64]
     ensures { λ r. ⌜ r ≡ mapOf (records (now (image .entry))) ⌝ }
 {
     let tasks = read_tasks(image);
-    let barred = read_barred(image, tasks);
+    let ids = tasks.ids;
+    let barred = read_barred(image, &ids, tasks.count);
     map_of(tasks, barred)
 }
 

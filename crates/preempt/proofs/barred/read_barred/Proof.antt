@@ -14,8 +14,6 @@ use Rattle.rules.proofs.Table.Listed.{Listed}
 use Rattle.table.specs.Numbers.{Directory, placeAmong}
 use Rattle.table.proofs.Places.{place-in}
 use Rattle.preempt.specs.Bits.{withPair}
-use Rattle.preempt.specs.declared.tasks.Tasks.{Tasks}
-use Rattle.preempt.proofs.Reading.{ids-directory}
 use Rattle.preempt.proofs.Pairs.{first-below, second-below, barredTo, none-barred, all-barred, pair-marked}
 use Rattle.preempt.proofs.Accepted.{shape, record-whole, names-listed, pair-record}
 use Rattle.rules.proofs.Maps.{map-length}
@@ -24,24 +22,27 @@ use Rattle.preempt.proofs.barred.read_barred.Statement.{statement}
 use Rattle.preempt.proofs.barred.read_barred.Tie as tie
 
 abbrev Inv-loop : tie.InvT-loop
-Inv-loop image known ids first count rows₀ k₀ rows k = (k ≤ count) × (first ≤ 80) × (count ≤ 256) × (rows ≡ mapFrom (taskCount (records image)) (barredTo (records image) k))
+Inv-loop image ids known first count rows₀ k₀ rows k = (k ≤ count) × (first ≤ 80) × (count ≤ 256) × (rows ≡ mapFrom (taskCount (records image)) (barredTo (records image) k))
 
 abbrev μ-loop : tie.MeasureT-loop
-μ-loop image known ids first count rows₀ k₀ rows k = count - k
+μ-loop image ids known first count rows₀ k₀ rows k = count - k
 
 -- the shape of the table
 shaped : (c : tie.After-count-kind Inv-loop μ-loop) → Shape (records (c .before .before .before .args .image .now))
 shaped c = shape (c .before .before .before .args .image .now) (c .before .before .shared-slice-known .given) (c .before .before .before .pre .0)
 
--- where the record of pair k has been read: the image, its records, and the tasks
+-- where the record of pair k has been read: the image, its records, and the ids of its tasks
 abbrev image-of : tie.After-record-at Inv-loop μ-loop → List ℕ
 image-of c = c .before .before .before .before .before .before .before .args .image .now
 
 abbrev records-of : tie.After-record-at Inv-loop μ-loop → List (List ℕ)
 records-of c = records (image-of c)
 
-abbrev tasks-of : tie.After-record-at Inv-loop μ-loop → Tasks
-tasks-of c = c .before .before .before .before .before .before .before .args .tasks
+abbrev ids-of : tie.After-record-at Inv-loop μ-loop → List ℕ
+ids-of c = c .before .before .before .before .before .before .before .args .ids .now
+
+abbrev known-of : tie.After-record-at Inv-loop μ-loop → ℕ
+known-of c = c .before .before .before .before .before .before .before .args .known
 
 -- there is such a pair
 inside : (c : tie.After-record-at Inv-loop μ-loop) → c .before .before .loop .k < length (pairs (records-of c))
@@ -52,7 +53,7 @@ pair-read : (c : tie.After-record-at Inv-loop μ-loop) → c .record-at .result 
 pair-read c =
     let start = c .before .before .before .before .before .before .before in
     let k = c .before .before .loop .k in
-    let at : (c .before .before .before .before .count-kind .result + tasks-of c .count) + k ≡ length (transactions (records-of c)) + taskCount (records-of c) + k = omega (arith, c .before .before .before .before .count-kind .ensures .0, start .pre .1 .count) in
+    let at : (c .before .before .before .before .count-kind .result + known-of c) + k ≡ length (transactions (records-of c)) + taskCount (records-of c) + k = omega (arith, c .before .before .before .before .count-kind .ensures .0, start .pre .1 .counted) in
     c .record-at .ensures
     ∙ ap (recordAt (image-of c)) at
     ∙ pair-record (image-of c) (c .before .before .before .before .before .before .shared-slice-known .given) (start .pre .0) k (inside c)
@@ -64,18 +65,16 @@ named c =
     (c .before .before .before .before .before .before .before .pre .0)
 
 -- the ids lead to the places of the tasks
-directory : (c : tie.After-record-at Inv-loop μ-loop) → Directory (tasks (records-of c)) (tasks-of c .ids) (tasks-of c .count)
-directory c =
-    ids-directory (records-of c) (tasks-of c) (shaped (c .before .before .before .before))
-    (c .before .before .before .before .before .before .before .pre .1)
+directory : (c : tie.After-record-at Inv-loop μ-loop) → Directory (tasks (records-of c)) (ids-of c) (known-of c)
+directory c = c .before .before .before .before .before .before .before .pre .1
 
 -- such as those of the two tasks that the pair names
 place : (c : tie.After-record-at Inv-loop μ-loop) (name : List ℕ → ℕ)
-    → placeAmong (tasks-of c .ids) (tasks-of c .count) (name (c .record-at .result .now))
+    → placeAmong (ids-of c) (known-of c) (name (c .record-at .result .now))
     ≡ placeOf (tasks (records-of c)) (name (getD (pairs (records-of c)) (c .before .before .loop .k) []))
 place c name =
-    ap (λ (r : List ℕ). placeAmong (tasks-of c .ids) (tasks-of c .count) (name r)) (pair-read c)
-    ∙ place-in (tasks (records-of c)) (tasks-of c .ids) (tasks-of c .count) (directory c) (name (getD (pairs (records-of c)) (c .before .before .loop .k) []))
+    ap (λ (r : List ℕ). placeAmong (ids-of c) (known-of c) (name r)) (pair-read c)
+    ∙ place-in (tasks (records-of c)) (ids-of c) (known-of c) (directory c) (name (getD (pairs (records-of c)) (c .before .before .loop .k) []))
 
 -- a map has 64 rows
 counts : (rs : List (List ℕ)) (k : ℕ) (rows : List ℕ) → rows ≡ mapFrom (taskCount rs) (barredTo rs k) → 64 ≡ length rows
@@ -85,7 +84,7 @@ count-kind-requires : tie.Need-count-kind-requires Inv-loop μ-loop
 count-kind-requires c κs = ((records-accepted (c .before .before .args .image .now) (c .before .before .pre .0), omega arith), table-held (c .before .before .args .image .now) (c .before .before .pre .0))
 
 add-first : tie.Need-add-first Inv-loop μ-loop
-add-first c = omega (arith, c .count-kind .ensures .0, shaped c .few-transactions, c .before .before .before .pre .1 .count, shaped c .few-tasks)
+add-first c = omega (arith, c .count-kind .ensures .0, shaped c .few-transactions, c .before .before .before .pre .1 .counted, shaped c .few-tasks)
 
 count-kind-requires-2 : tie.Need-count-kind-requires-2 Inv-loop μ-loop
 count-kind-requires-2 c κs = ((records-accepted (c .before .before .before .args .image .now) (c .before .before .before .pre .0), omega arith), table-held (c .before .before .before .args .image .now) (c .before .before .before .pre .0))
@@ -94,24 +93,21 @@ loop-holds : tie.Need-loop-holds Inv-loop μ-loop
 loop-holds c =
     let rs = records (c .before .before .before .before .args .image .now) in
     let s = shaped (c .before) in
-    (omega arith, omega (arith, c .before .count-kind .ensures .0, s .few-transactions, c .before .before .before .before .pre .1 .count, s .few-tasks), omega (arith, c .count-kind2 .ensures .0, s .few-pairs), map-none (taskCount rs) (barredTo rs 0) (none-barred rs))
+    (omega arith, omega (arith, c .before .count-kind .ensures .0, s .few-transactions, c .before .before .before .before .pre .1 .counted, s .few-tasks), omega (arith, c .count-kind2 .ensures .0, s .few-pairs), map-none (taskCount rs) (barredTo rs 0) (none-barred rs))
 
 add-record-at : tie.Need-add-record-at Inv-loop μ-loop
 add-record-at c = search needs
 
 record-at-requires : tie.Need-record-at-requires Inv-loop μ-loop
 record-at-requires c κs =
-    record-whole (c .before .before .before .before .before .before .args .image .now) (c .before .before .before .before .before .shared-slice-known .given) (c .before .before .before .before .before .before .pre .0) (c .before .before .before .count-kind .result + c .before .before .before .before .before .before .args .tasks .count + c .before .loop .k) (omega arith)
+    record-whole (c .before .before .before .before .before .before .args .image .now) (c .before .before .before .before .before .shared-slice-known .given) (c .before .before .before .before .before .before .pre .0) (c .before .before .before .count-kind .result + c .before .before .before .before .before .before .args .known + c .before .loop .k) (omega arith)
 
 slice-aggregate-forbid : tie.Need-slice-aggregate-forbid Inv-loop μ-loop
 slice-aggregate-forbid c = counts (records (c .before .before .before .before .before .before .before .before .args .image .now)) (c .before .before .before .loop .k) (c .before .before .before .loop .rows) (c .before .before .before .loop .inv .3)
 
-slice-aggregate-forbid-2 : tie.Need-slice-aggregate-forbid-2 Inv-loop μ-loop
-slice-aggregate-forbid-2 c = search needs
-
 forbid-requires : tie.Need-forbid-requires Inv-loop μ-loop
 forbid-requires c κs =
-    let read = c .before .before in
+    let read = c .before in
     let s = shaped (read .before .before .before .before) in
     let first = place read numberOf in
     let second = place read secondOf in
@@ -131,9 +127,9 @@ loop-less c = search needs
 
 loop-again : tie.Need-loop-again Inv-loop μ-loop
 loop-again c =
-    let read = c .before .before .before .before in
-    let first = placeAmong (tasks-of read .ids) (tasks-of read .count) (numberOf (read .record-at .result .now)) in
-    let second = placeAmong (tasks-of read .ids) (tasks-of read .count) (secondOf (read .record-at .result .now)) in
+    let read = c .before .before .before in
+    let first = placeAmong (ids-of read) (known-of read) (numberOf (read .record-at .result .now)) in
+    let second = placeAmong (ids-of read) (known-of read) (secondOf (read .record-at .result .now)) in
     let k = read .before .before .loop .k in (
       omega arith,
       omega arith,
@@ -163,7 +159,6 @@ read-barred-spec =
     add-record-at
     record-at-requires
     slice-aggregate-forbid
-    slice-aggregate-forbid-2
     forbid-requires
     add-k
     loop-less

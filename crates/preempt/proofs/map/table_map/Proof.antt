@@ -3,7 +3,7 @@ use mathlib.Core.Path.{_∙_}
 use native.Mathlib.Omega.{arith}
 use borrow.Author.Needs.{needs}
 use Rattle.rules.specs.Blocks.{records}
-use Rattle.preempt.proofs.Reading.{map-read}
+use Rattle.preempt.proofs.Reading.{ids-directory, map-read}
 use Rattle.preempt.proofs.Accepted.{shape}
 use Rattle.preempt.proofs.map.table_map.Statement.{statement}
 use Rattle.preempt.proofs.map.table_map.Tie as tie
@@ -11,19 +11,33 @@ use Rattle.preempt.proofs.map.table_map.Tie as tie
 read-tasks-requires : tie.Need-read-tasks-requires
 read-tasks-requires c κs = search needs
 
+slice-aggregate-read-barred : tie.Need-slice-aggregate-read-barred
+slice-aggregate-read-barred c = search needs
+
 read-barred-requires : tie.Need-read-barred-requires
-read-barred-requires c κs = search needs
+read-barred-requires c κs =
+    let start = c .before .before .before .before in
+    let tasks = c .before .before .read-tasks in
+    (start .pre, ids-directory (records (start .args .image .now)) (tasks .result) (shape (start .args .image .now) (c .before .before .before .shared-slice-known .given) (start .pre)) (tasks .ensures))
 
 map-of-requires : tie.Need-map-of-requires
-map-of-requires c κs = omega (arith, c .before .read-tasks .ensures .count, shape (c .before .before .before .args .image .now) (c .before .before .shared-slice-known .given) (c .before .before .before .pre) .few-tasks)
+map-of-requires c κs =
+    let start = c .before .before .before .before .before in
+    omega (arith, c .before .before .before .read-tasks .ensures .count, shape (start .args .image .now) (c .before .before .before .before .shared-slice-known .given) (start .pre) .few-tasks)
 
 returns : tie.Need-returns
 returns c =
-    let start = c .before .before .before .before in
-    let tasks = c .before .before .read-tasks in
+    let start = c .before .before .before .before .before .before in
+    let tasks = c .before .before .before .before .read-tasks in
     let barred = c .before .read-barred in
-    c .map-of .ensures ∙ map-read (records (start .args .image .now)) (tasks .result) (barred .result) (shape (start .args .image .now) (c .before .before .before .shared-slice-known .given) (start .pre)) (tasks .ensures) (barred .ensures)
+    c .map-of .ensures ∙ map-read (records (start .args .image .now)) (tasks .result) (barred .result) (shape (start .args .image .now) (c .before .before .before .before .before .shared-slice-known .given) (start .pre)) (tasks .ensures) (barred .ensures)
 
 pub table-map-spec : {M : Type 1} → statement M
 table-map-spec =
-    tie.close (tie.spec read-tasks-requires read-barred-requires map-of-requires returns)
+    tie.close
+    (tie.spec
+    read-tasks-requires
+    slice-aggregate-read-barred
+    read-barred-requires
+    map-of-requires
+    returns)
