@@ -1,24 +1,36 @@
 -- Sets of places: a set marks the places that pass a test, bit by bit.
-use Prim.Native.Nat.{ℕ, _+_, _^_, _<_}
+use Prim.Native.Nat.{ℕ, _+_, _^_, _≤_, _<_}
 use mathlib.Core.List.{List}
 use mathlib.Core.Bool.{Bool, false, _||_}
 use mathlib.Core.Path.{_≡_, sym, _∙_}
 use native.Mathlib.Omega.{arith}
-use borrow.Author.Tests.{eqb-true, eq-eqb, ne-eqb, ltb-true, ltb-false}
+use borrow.Author.Tests.{eqb-true, eq-eqb, ne-eqb, lt-ltb, ltb-true, ltb-false}
 use lib.Bits.{bitOr}
 use lib.Dec.{ltb, eqb}
 use lib.ListN.{getD}
 use Rattle.rules.specs.Numbers.{some}
+use Rattle.rules.specs.Preempt.{rowFrom}
 use Rattle.rules.specs.Records.{kindOf, numberOf, secondOf}
 use Rattle.rules.proofs.Numbers.{either, never, lowest-passes, lowest-below, lowest-zero, some-false, some-more}
 use Rattle.rules.proofs.Bits.{bit-none, bit-of-power, bit-or}
+use Rattle.rules.proofs.Maps.{row-at}
 use Rattle.rules.proofs.Tests.{same-tests}
 use Rattle.table.specs.Numbers.{Rising, placeAmong}
+use Rattle.preempt.specs.Bits.{numbered}
 use Rattle.patch.specs.Touched.{Marks, concernsTask}
 
 -- no place is in the empty set
 pub marks-none : (count : ℕ) (test : ℕ → Bool) → ((i : ℕ) → i < count → test i ≡ false) → Marks count test 0
 marks-none count test none i l = bit-none i ∙ sym (none i l)
+
+-- the places of a number
+pub marks-members : (numbers : List ℕ) (count number set : ℕ) → count ≤ 64 → set ≡ rowFrom count (numbered numbers number) → Marks count (λ i. eqb number (getD numbers i 0)) set
+marks-members numbers count number set most members i l =
+    let here = getD numbers i 0 in
+    rw (members, row-at count (numbered numbers number) i most, lt-ltb i count l)
+    (same-tests (eqb here number) (eqb number here)
+    (λ t. eq-eqb number here (sym (eqb-true here number t)))
+    (λ t. eq-eqb here number (sym (eqb-true number here t))))
 
 -- two sets together
 pub marks-either : (count : ℕ) (test other : ℕ → Bool) (a b : ℕ) → Marks count test a → Marks count other b

@@ -14,25 +14,10 @@ use image::bytes::two_bytes;
 use image::records::record_at;
 use image::records::record_count;
 use preempt::bits::is_set;
+use preempt::bits::members;
 use preempt::bits::power;
 use preempt::bits::union;
 use table::place::place_of;
-
-// The tasks of a transaction.
-fn tasks_of(transactions: &[u32], count: usize, number: u32) -> u64
-    requires { ⌜ (count ≤ 64) × (count ≤ length (now transactions)) ⌝ }
-    ensures { λ r. ⌜ Marks count (λ i. eqb number (getD (now (transactions .entry)) i 0)) r ⌝ }
-{
-    let mut set: u64 = 0;
-    let mut i: usize = 0;
-    while i < count {
-        if number == transactions[i] {
-            set += power(i);
-        }
-        i += 1;
-    }
-    set
-}
 
 // The task with an id, or none.
 fn task_with(ids: &[u32], count: usize, id: u32) -> u64
@@ -56,7 +41,7 @@ fn concerned(ids: &[u32], transactions: &[u32], count: usize, fields: &[u8]) -> 
     let kind = byte_at(fields, 0);
     let number = two_bytes(fields, 2);
     if kind == 1 {
-        return tasks_of(transactions, count, number);
+        return members(transactions, count, number);
     }
     if kind == 2 {
         return task_with(ids, count, number);

@@ -7,9 +7,13 @@ use lib.Dec.{ltb, eqb}
 use lib.ListN.{getD, set}
 use Rattle.rules.specs.Numbers.{upTo}
 
--- bit j, counted from the lowest
+-- bit j, counted from the lowest; of a set of places, whether place j is in it
 abbrev pub bitAt : ℕ → ℕ → Bool
 bitAt n j = eqb (n / 2 ^ j % 2) 1
+
+-- the place's number is this one
+abbrev pub numbered : List ℕ → ℕ → ℕ → Bool
+numbered numbers number j = eqb (getD numbers j 0) number
 
 -- 64 numbers: f 0, .., f (n - 1), and 0 beyond
 unfoldable pub column : ℕ → (ℕ → ℕ) → List ℕ

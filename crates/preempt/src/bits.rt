@@ -1,8 +1,11 @@
-// One bit of a 64-bit number, counted from the lowest.
+// Sets of places: a 64-bit number whose bit j, counted from the lowest, says whether place j is in the set.
 ghost use mathlib.Core.Path.{_≡_};
-ghost use Prim.Native.Nat.{_/_, _%_, _^_, _<_};
-ghost use lib.Dec.{eqb};
+ghost use mathlib.Core.Bool.{cond};
+ghost use Prim.Native.Nat.{_^_, _≤_, _<_};
 ghost use lib.Bits.{bitOr};
+ghost use lib.ListN.{length};
+ghost use Rattle.rules.specs.Preempt.{rowFrom};
+ghost use Rattle.preempt.specs.Bits.{bitAt, numbered};
 
 // The number with one bit set.
 pub fn power(j: usize) -> u64
@@ -15,7 +18,7 @@ pub fn power(j: usize) -> u64
 // Whether bit j of a number is set.
 pub fn is_set(bits: u64, j: usize) -> bool
     requires { ⌜ j < 64 ⌝ }
-    ensures { λ r. ⌜ r ≡ eqb (bits / 2 ^ j % 2) 1 ⌝ }
+    ensures { λ r. ⌜ r ≡ bitAt bits j ⌝ }
 {
     (bits >> j) % 2 == 1
 }
@@ -28,9 +31,34 @@ pub fn with_bit(bits: u64, j: usize) -> u64
     bits | power(j)
 }
 
+// The number with bit j set besides, where that is wanted. A loop that tests each place calls it once for each.
+pub fn with_bit_if(bits: u64, j: usize, wanted: bool) -> u64
+    requires { ⌜ j < 64 ⌝ }
+    ensures { λ r. ⌜ r ≡ cond wanted (bitOr bits (2 ^ j)) bits ⌝ }
+{
+    if wanted {
+        return with_bit(bits, j);
+    }
+    bits
+}
+
 // The bits that are set in either number.
 pub fn union(a: u64, b: u64) -> u64
     ensures { λ r. ⌜ r ≡ bitOr a b ⌝ }
 {
     a | b
+}
+
+// The places below count whose number is this one.
+pub fn members(numbers: &[u32], count: usize, number: u32) -> u64
+    requires { ⌜ (count ≤ 64) × (count ≤ length (now numbers)) ⌝ }
+    ensures { λ r. ⌜ r ≡ rowFrom count (numbered (now (numbers .entry)) number) ⌝ }
+{
+    let mut set: u64 = 0;
+    let mut place: usize = 0;
+    while place < count {
+        set = with_bit_if(set, place, numbers[place] == number);
+        place += 1;
+    }
+    set
 }

@@ -9,11 +9,21 @@ use lib.ListN.{length, getD, List·getD-eq-default}
 use lib.Pow.{pow-mono}
 use Rattle.rules.specs.Preempt.{cell, rowFrom, mapFrom}
 use Rattle.rules.proofs.Numbers.{either, length-upTo, getD-upTo, upTo-ext, sumTo-ext}
-use Rattle.rules.proofs.Bits.{bitAt, bitsTo, bit-lacks, bits-at, bits-end, bits-small}
+use Rattle.rules.proofs.Bits.{bitAt, bit-lacks, bits-at, bits-small}
 
 -- the bits of a row
 abbrev pub rowTest : ℕ → (ℕ → Bool) → ℕ → Bool
 rowTest n test j = ltb j n && test j
+
+-- every bit of a row is fixed, those beyond its 64 too
+pub row-at : (n : ℕ) (test : ℕ → Bool) (j : ℕ) → n ≤ 64 → bitAt (rowFrom n test) j ≡ rowTest n test j
+row-at n test j most =
+    either (ltb j 64)
+    (λ t. bits-at (rowTest n test) 64 j (ltb-true j 64 t))
+    (λ t.
+    let past = ltb-false j 64 t in
+    let small : rowFrom n test < 2 ^ j = omega (arith, bits-small (rowTest n test) 64, pow-mono past) in
+    bit-lacks (rowFrom n test) j small ∙ rw (le-ltb j n (omega arith)))
 
 -- a map has 64 rows
 pub map-length : (n : ℕ) (test : ℕ → ℕ → Bool) → length (mapFrom n test) ≡ 64
@@ -30,7 +40,7 @@ map-row n test i most h =
 pub cell-of-map : (n : ℕ) (test : ℕ → ℕ → Bool) (i j : ℕ) → n ≤ 64 → i < n → j < n → cell (mapFrom n test) i j ≡ test i j
 cell-of-map n test i j most h l =
     ap (λ (row : ℕ). bitAt row j) (map-row n test i most h)
-    ∙ bits-at (rowTest n (test i)) 64 j (omega arith)
+    ∙ row-at n (test i) j most
     ∙ rw (lt-ltb j n l)
 
 -- rows beyond the tasks are 0, and so are cells beyond them
@@ -44,9 +54,9 @@ row-beyond n test i past =
 
 pub cell-beyond : (n : ℕ) (test : ℕ → ℕ → Bool) (i j : ℕ) → n ≤ 64 → i < n → n ≤ j → cell (mapFrom n test) i j ≡ false
 cell-beyond n test i j most h past =
-    let row : getD (mapFrom n test) i 0 ≡ bitsTo (rowTest n (test i)) n = map-row n test i most h ∙ bits-end (rowTest n (test i)) n 64 most (λ k l. rw (le-ltb k n l)) in
-    let small : bitsTo (rowTest n (test i)) n < 2 ^ j = omega (arith, bits-small (rowTest n (test i)) n, pow-mono past) in
-    ap (λ (r : ℕ). bitAt r j) row ∙ bit-lacks (bitsTo (rowTest n (test i)) n) j small
+    ap (λ (row : ℕ). bitAt row j) (map-row n test i most h)
+    ∙ row-at n (test i) j most
+    ∙ rw (le-ltb j n past)
 
 -- rows from tests that agree below n are equal, and so are maps
 pub row-ext : (n : ℕ) (test other : ℕ → Bool) → ((j : ℕ) → j < n → test j ≡ other j) → rowFrom n test ≡ rowFrom n other

@@ -20,7 +20,8 @@ use Rattle.stack.specs.Figures.{ownTask, OwnPaths, figuresIn, FoundOver,
 use Rattle.stack.proofs.Columns.{field-total}
 use Rattle.rules.specs.Chains.{weight, Chain, Path, All, Before, Largest, Heaviest, related, sizeAt, idAt, priorityAt, inTransaction, TransactionBound, levelBound}
 use Rattle.rules.specs.Chains.Before.{less, later, shorter}
-use Rattle.stack.specs.Places.{has, Below}
+use Rattle.preempt.specs.Bits.{bitAt}
+use Rattle.stack.specs.Places.{Below}
 
 -- every place of the list is below n
 abbrev pub Within : ℕ → List ℕ → Type 0
@@ -75,16 +76,16 @@ largest-as n R test other S r same h =
 
 -- a path bound over a set that holds every place is the path bound
 pub largest-all : (n : ℕ) (R : ℕ → ℕ → Bool) (cover : ℕ) (S : ℕ → ℕ) (r : ℕ) → Below n cover
-    → Largest (λ c. Path n R c × All (has cover) c) (weight S) r → Largest (Path n R) (weight S) r
+    → Largest (λ c. Path n R c × All (bitAt cover) c) (weight S) r → Largest (Path n R) (weight S) r
 largest-all n R cover S r below h =
     record {
       reached = (h .reached .0, h .reached .1 .0, h .reached .2);
       most = λ c p. h .most c (p, everywhere c (path-within n R c p));
     }
   where
-    everywhere : (c : List ℕ) → Within n c → All (has cover) c
+    everywhere : (c : List ℕ) → Within n c → All (bitAt cover) c
     everywhere [] w = tt
-    everywhere (i ∷ c) w = (true-T (has cover i) (below i ∙ lt-ltb i n (w .0)), everywhere c (w .1))
+    everywhere (i ∷ c) w = (true-T (bitAt cover i) (below i ∙ lt-ltb i n (w .0)), everywhere c (w .1))
 
 module _ (rs : List (List ℕ)) (lent : List ℕ) (t : Tasks) (shape : Shape rs) (read : TasksRead rs t) where
   sizes-same : sizeIn (t .sizes) ≡ sizeAt rs

@@ -1,5 +1,5 @@
 -- The path bounds of each transaction's own tasks, added up one by one.
-use Prim.Native.Nat.{ℕ, _+_}
+use Prim.Native.Nat.{ℕ, _+_, _≤_}
 use mathlib.Core.List.{List, []}
 use mathlib.Core.Bool.{cond}
 use mathlib.Core.Path.{_≡_, refl, sym, ap, _∙_}
@@ -9,28 +9,29 @@ use lib.ListN.{getD}
 use lib.Dec.{ltb, eqb}
 use Rattle.rules.specs.Numbers.{sumTo}
 use Rattle.rules.specs.Records.{numberOf}
-use Rattle.rules.specs.Preempt.{cell}
+use Rattle.rules.specs.Preempt.{cell, rowFrom}
 use Rattle.rules.specs.Chains.{weight, Path, All, Largest}
 use Rattle.rules.proofs.Numbers.{either, sumTo-zero, sumTo-step, sumTo-ext}
 use Rattle.rules.proofs.Tests.{both-first}
-use Rattle.stack.specs.Places.{has, Inside}
+use Rattle.rules.proofs.Maps.{row-at}
+use Rattle.preempt.specs.Bits.{bitAt, numbered}
+use Rattle.stack.specs.Places.{Inside}
 use Rattle.stack.specs.Paths.{sizeIn, PathBound}
-use Rattle.stack.specs.Related.{Members}
 use Rattle.stack.specs.Figures.{ownTask, OwnPaths}
 use Rattle.stack.proofs.Figures.{largest-as}
 
 -- members of a number are places below the count
-pub members-inside : (numbers : List ℕ) (count number set : ℕ) → Members numbers count number set → Inside count set
-members-inside numbers count number set members j h =
-    ltb-true j count (both-first (ltb j count) (eqb (getD numbers j 0) number) (sym (members j) ∙ h))
+pub members-inside : (numbers : List ℕ) (count number set : ℕ) → count ≤ 64 → set ≡ rowFrom count (numbered numbers number) → Inside count set
+members-inside numbers count number set most members j h =
+    ltb-true j count (both-first (ltb j count) (numbered numbers number j) (sym (row-at count (numbered numbers number) j most) ∙ rw members at h))
 
 -- the path bound inside a transaction's members is that of its own tasks
 pub members-own : (n : ℕ) (rows sizes numbers : List ℕ) (listed : List (List ℕ)) (t number set r : ℕ) → number ≡ numberOf (getD listed t [])
-    → Members numbers n number set → PathBound n rows sizes set r
+    → n ≤ 64 → set ≡ rowFrom n (numbered numbers number) → PathBound n rows sizes set r
     → Largest (λ c. Path n (cell rows) c × All (ownTask numbers listed t) c) (weight (sizeIn sizes)) r
-members-own n rows sizes numbers listed t number set r here members bound =
-    largest-as n (cell rows) (has set) (ownTask numbers listed t) (sizeIn sizes) r
-    (λ i h. members i ∙ rw (lt-ltb i n h, here)) bound
+members-own n rows sizes numbers listed t number set r here most members bound =
+    largest-as n (cell rows) (bitAt set) (ownTask numbers listed t) (sizeIn sizes) r
+    (λ i h. rw (members, row-at n (numbered numbers number) i most, lt-ltb i n h, here)) bound
 
 module _ (n : ℕ) (rows sizes numbers : List ℕ) (listed : List (List ℕ)) where
   pub own-none : OwnPaths n rows sizes numbers listed 0 0

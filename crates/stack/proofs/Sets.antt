@@ -1,6 +1,6 @@
 -- Laws of sets of places, by a set's lowest bit and the set of the others, moved down by one.
 use Prim.Native.Nat.{ℕ, zero, suc, _-_, _/_, _%_, _^_, _≤_, _<_}
-use mathlib.Core.Bool.{Bool, true, false, _&&_, not}
+use mathlib.Core.Bool.{true, false, _&&_, not}
 use mathlib.Core.Path.{_≡_, sym, _∙_}
 use native.Mathlib.Nat.{pow-suc}
 use native.Mathlib.Omega.{arith}
@@ -12,14 +12,15 @@ use lib.Count.{trailingZeros}
 use Rattle.rules.proofs.Numbers.{either, never}
 use Rattle.rules.proofs.Tests.{both-first, both-second}
 use Rattle.rules.proofs.Bits.{bit-shift, bit-none, bit-and, bit-enough, bit-taken}
-use Rattle.stack.specs.Places.{has, Lowest, Without, Shared, Below}
+use Rattle.preempt.specs.Bits.{bitAt}
+use Rattle.stack.specs.Places.{Lowest, Without, Shared, Below}
 
 -- the places that two sets share
 pub shared-has : (a b : ℕ) → Shared a b (bitAnd a b)
 shared-has = bit-and
 
 -- a set without one of its places is smaller, and every other place stays as it was
-pub without-has : (a p : ℕ) → has a p ≡ true → Without a p (a - 2 ^ p)
+pub without-has : (a p : ℕ) → bitAt a p ≡ true → Without a p (a - 2 ^ p)
 without-has a p h =
     let there : a / 2 ^ p % 2 ≡ 1 = eqb-true (a / 2 ^ p % 2) 1 h in
     record { less = omega (arith, bit-enough p a there, pow-pos p); rest = bit-taken a p there }
@@ -73,18 +74,18 @@ below-has (suc count) (suc j) =
     (λ t. below-has count j ∙ t ∙ sym (le-ltb (suc j) (suc count) (omega (arith, ltb-false j count t)))))
 
 -- a place of the smaller set is one of the set, and another one than the place taken out
-pub without-inside : (a i b : ℕ) → Without a i b → (j : ℕ) → has b j ≡ true → (has a j ≡ true) × (j ≡ i → ⊥)
+pub without-inside : (a i b : ℕ) → Without a i b → (j : ℕ) → bitAt b j ≡ true → (bitAt a j ≡ true) × (j ≡ i → ⊥)
 without-inside a i b taken j h =
-    let h′ : (has a j && not (eqb j i)) ≡ true = sym (taken .rest j) ∙ h in (
-      both-first (has a j) (not (eqb j i)) h′,
-      λ e. never (eqb j i) (eq-eqb j i e) (not-true (eqb j i) (both-second (has a j) (not (eqb j i)) h′)),
+    let h′ : (bitAt a j && not (eqb j i)) ≡ true = sym (taken .rest j) ∙ h in (
+      both-first (bitAt a j) (not (eqb j i)) h′,
+      λ e. never (eqb j i) (eq-eqb j i e) (not-true (eqb j i) (both-second (bitAt a j) (not (eqb j i)) h′)),
     )
 
 -- a place outside the smaller set is outside the set, or the place taken out
-pub without-outside {ℓ} : {A : Type ℓ} (a i b : ℕ) → Without a i b → (j : ℕ) → has b j ≡ false → (has a j ≡ false → A) → (j ≡ i → A) → A
+pub without-outside {ℓ} : {A : Type ℓ} (a i b : ℕ) → Without a i b → (j : ℕ) → bitAt b j ≡ false → (bitAt a j ≡ false → A) → (j ≡ i → A) → A
 without-outside a i b taken j h outside out =
-    either (has a j)
+    either (bitAt a j)
     (λ t. either (eqb j i)
     (λ e. out (eqb-true j i e))
-    (λ e. never (has b j) (taken .rest j ∙ rw (t, e)) h))
+    (λ e. never (bitAt b j) (taken .rest j ∙ rw (t, e)) h))
     outside

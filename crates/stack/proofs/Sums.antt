@@ -14,7 +14,8 @@ use Rattle.rules.specs.Preempt.{cell}
 use Rattle.rules.specs.Chains.{weight, Path, All, Largest}
 use Rattle.rules.proofs.Numbers.{either, never}
 use Rattle.rules.proofs.Tests.{both-first, both-second, T-true, true-T}
-use Rattle.stack.specs.Places.{has, Without, Shared, Inside}
+use Rattle.preempt.specs.Bits.{bitAt}
+use Rattle.stack.specs.Places.{Without, Shared, Inside}
 use Rattle.stack.specs.Setting.{Ready}
 use Rattle.stack.specs.Paths.{sizeIn, LargestAt, PathBound}
 use Rattle.rules.proofs.Bits.{bit-none}
@@ -29,21 +30,21 @@ zeros (suc k) (suc j) = zeros k j
 -- the largest sum at the places of a set that are not in the rest
 pub record Sought (sums : List ℕ) (set largest rest : ℕ) : Type 0 where
   pub within : rest ≤ set
-  pub inside : (j : ℕ) → has rest j ≡ true → has set j ≡ true
-  pub most : (j : ℕ) → has set j ≡ true → has rest j ≡ false → getD sums j 0 ≤ largest
-  pub reached : (largest ≡ 0) ⊎ ((j : ℕ) × (has set j ≡ true) × (getD sums j 0 ≡ largest))
+  pub inside : (j : ℕ) → bitAt rest j ≡ true → bitAt set j ≡ true
+  pub most : (j : ℕ) → bitAt set j ≡ true → bitAt rest j ≡ false → getD sums j 0 ≤ largest
+  pub reached : (largest ≡ 0) ⊎ ((j : ℕ) × (bitAt set j ≡ true) × (getD sums j 0 ≡ largest))
 
 pub sought-none : {sums : List ℕ} {set : ℕ} → Sought sums set 0 set
 sought-none {sums} {set} =
     record {
       within = omega arith;
       inside = λ j h. h;
-      most = λ j h g. never (has set j) h g;
+      most = λ j h g. never (bitAt set j) h g;
       reached = inl refl;
     }
 
 pub sought-more : {sums : List ℕ} {set largest rest i smaller larger : ℕ} → Sought sums set largest rest → Without rest i smaller
-    → largest ≤ larger → getD sums i 0 ≤ larger → (larger ≡ 0) ⊎ ((j : ℕ) × (has set j ≡ true) × (getD sums j 0 ≡ larger))
+    → largest ≤ larger → getD sums i 0 ≤ larger → (larger ≡ 0) ⊎ ((j : ℕ) × (bitAt set j ≡ true) × (getD sums j 0 ≡ larger))
     → Sought sums set larger smaller
 sought-more {sums} {set} {largest} {rest} {i} {smaller} {larger} found taken more here reached =
     record {
@@ -71,36 +72,36 @@ largest-light most largest light =
 module _ (n : ℕ) (rows sizes : List ℕ) (cover : ℕ) where
   -- r is the largest sum over the paths inside the cover that start at i
   abbrev pub Settled : ℕ → ℕ → Type 0
-  Settled i r = Largest (λ c. Path n (cell rows) (i ∷ c) × All (has cover) (i ∷ c)) (λ c. weight (sizeIn sizes) (i ∷ c)) r
+  Settled i r = Largest (λ c. Path n (cell rows) (i ∷ c) × All (bitAt cover) (i ∷ c)) (λ c. weight (sizeIn sizes) (i ∷ c)) r
 
   -- a place's own sum, where those of all that may preempt it are settled
-  settle : {higher i r : ℕ} {sums : List ℕ} → i < n → has cover i ≡ true → Shared (getD rows i 0) cover higher → LargestAt sums higher r
-      → ((j : ℕ) → has cover j ≡ true → T (cell rows i j) → Settled j (getD sums j 0)) → Settled i (sizeIn sizes i + r)
+  settle : {higher i r : ℕ} {sums : List ℕ} → i < n → bitAt cover i ≡ true → Shared (getD rows i 0) cover higher → LargestAt sums higher r
+      → ((j : ℕ) → bitAt cover j ≡ true → T (cell rows i j) → Settled j (getD sums j 0)) → Settled i (sizeIn sizes i + r)
   settle {higher} {i} {r} {sums} below there meet largest settled =
       record {
         reached =
             ⊎-elim
-            (λ e. ([], (below, (true-T (has cover i) there, tt)), omega arith))
+            (λ e. ([], (below, (true-T (bitAt cover i) there, tt)), omega arith))
             (λ (j, h, e).
             let h′ = sym (meet j) ∙ h in
-            let may = true-T (cell rows i j) (both-first (cell rows i j) (has cover j) h′) in
-            let (c, (path, all), same) = settled j (both-second (cell rows i j) (has cover j) h′) may .reached in
-            (j ∷ c, ((below, may, path), (true-T (has cover i) there, all)), omega arith))
+            let may = true-T (cell rows i j) (both-first (cell rows i j) (bitAt cover j) h′) in
+            let (c, (path, all), same) = settled j (both-second (cell rows i j) (bitAt cover j) h′) may .reached in
+            (j ∷ c, ((below, may, path), (true-T (bitAt cover i) there, all)), omega arith))
             (largest .reached);
         most = most′;
       }
     where
-      most′ : (c : List ℕ) → Path n (cell rows) (i ∷ c) × All (has cover) (i ∷ c) → weight (sizeIn sizes) (i ∷ c) ≤ sizeIn sizes i + r
+      most′ : (c : List ℕ) → Path n (cell rows) (i ∷ c) × All (bitAt cover) (i ∷ c) → weight (sizeIn sizes) (i ∷ c) ≤ sizeIn sizes i + r
       most′ [] h = omega arith
       most′ (j ∷ c) (path, all) =
-          let inside = T-true (has cover j) (all .1 .0) in
+          let inside = T-true (bitAt cover j) (all .1 .0) in
           let may = path .1 in
-          let here : has higher j ≡ true = meet j ∙ rw (T-true (cell rows i j) may, inside) in
+          let here : bitAt higher j ≡ true = meet j ∙ rw (T-true (cell rows i j) may, inside) in
           omega (arith, settled j inside may .most c (path .2, all .1), largest .most j here)
 
   -- the largest of all, where the sums of all places of the cover are settled
   settled-all : {r : ℕ} {sums : List ℕ} → LargestAt sums cover r
-      → ((j : ℕ) → has cover j ≡ true → Settled j (getD sums j 0)) → PathBound n rows sizes cover r
+      → ((j : ℕ) → bitAt cover j ≡ true → Settled j (getD sums j 0)) → PathBound n rows sizes cover r
   settled-all {r} {sums} largest settled =
       record {
         reached =
@@ -113,10 +114,10 @@ module _ (n : ℕ) (rows sizes : List ℕ) (cover : ℕ) where
         most = most′;
       }
     where
-      most′ : (c : List ℕ) → Path n (cell rows) c × All (has cover) c → weight (sizeIn sizes) c ≤ r
+      most′ : (c : List ℕ) → Path n (cell rows) c × All (bitAt cover) c → weight (sizeIn sizes) c ≤ r
       most′ [] h = omega arith
       most′ (j ∷ c) h =
-          let inside = T-true (has cover j) (h .1 .0) in
+          let inside = T-true (bitAt cover j) (h .1 .0) in
           omega (arith, settled j inside .most c h, largest .most j inside)
 
 -- where the first k places of the order are done: the sums of those in the cover are settled, and the rest stand later
@@ -124,9 +125,9 @@ pub record Underway (n : ℕ) (rows sizes order : List ℕ) (cover : ℕ) (sums 
   pub count : k ≤ n
   pub room : length sums ≡ 64
   pub within : rest ≤ cover
-  pub inside : (j : ℕ) → has rest j ≡ true → has cover j ≡ true
-  pub later : (j : ℕ) → has rest j ≡ true → (m : ℕ) × (k ≤ m) × (m < n) × (getD order m 0 ≡ j)
-  pub settled : (j : ℕ) → has cover j ≡ true → has rest j ≡ false → Settled n rows sizes cover j (getD sums j 0)
+  pub inside : (j : ℕ) → bitAt rest j ≡ true → bitAt cover j ≡ true
+  pub later : (j : ℕ) → bitAt rest j ≡ true → (m : ℕ) × (k ≤ m) × (m < n) × (getD order m 0 ≡ j)
+  pub settled : (j : ℕ) → bitAt cover j ≡ true → bitAt rest j ≡ false → Settled n rows sizes cover j (getD sums j 0)
   pub light : (j : ℕ) → getD sums j 0 ≤ 65535 * k
 
 module _ {n : ℕ} {rows sizes order : List ℕ} {cover : ℕ} (ready : Ready n rows sizes order) where
@@ -140,7 +141,7 @@ module _ {n : ℕ} {rows sizes order : List ℕ} {cover : ℕ} (ready : Ready n 
         later = λ j h.
             let (m, below, same) = ready .occurs j (inside j h) in
             (m, omega arith, below, same);
-        settled = λ j h g. never (has cover j) h g;
+        settled = λ j h g. never (bitAt cover j) h g;
         light = λ j. omega (arith, zeros j);
       }
 
@@ -152,7 +153,7 @@ module _ {n : ℕ} {rows sizes order : List ℕ} {cover : ℕ} (ready : Ready n 
       omega arith
 
   -- the next place of the order is not in the rest
-  pub underway-skip : {sums : List ℕ} {rest k : ℕ} → Underway n rows sizes order cover sums rest k → k < n → has rest (getD order k 0) ≡ false → Underway n rows sizes order cover sums rest (k + 1)
+  pub underway-skip : {sums : List ℕ} {rest k : ℕ} → Underway n rows sizes order cover sums rest k → k < n → bitAt rest (getD order k 0) ≡ false → Underway n rows sizes order cover sums rest (k + 1)
   underway-skip {sums} {rest} {k} so-far below outside =
       record {
         count = omega arith;
@@ -161,14 +162,14 @@ module _ {n : ℕ} {rows sizes order : List ℕ} {cover : ℕ} (ready : Ready n 
         inside = so-far .inside;
         later = λ j h.
             let (m, above, last, same) = so-far .later j h in
-            let other : m ≡ k → ⊥ = λ e. never (has rest j) h (rw (sym same, e) outside) in
+            let other : m ≡ k → ⊥ = λ e. never (bitAt rest j) h (rw (sym same, e) outside) in
             (m, omega arith, last, same);
         settled = so-far .settled;
         light = λ j. omega (arith, so-far .light j);
       }
 
   -- the next place of the order is in the rest: its sum is settled now
-  pub underway-take : {sums : List ℕ} {rest k higher r smaller : ℕ} → Underway n rows sizes order cover sums rest k → k < n → has rest (getD order k 0) ≡ true
+  pub underway-take : {sums : List ℕ} {rest k higher r smaller : ℕ} → Underway n rows sizes order cover sums rest k → k < n → bitAt rest (getD order k 0) ≡ true
       → Shared (getD rows (getD order k 0) 0) cover higher → LargestAt sums higher r → Without rest (getD order k 0) smaller
       → Underway n rows sizes order cover (set-at sums (getD order k 0) (sizeIn sizes (getD order k 0) + r)) smaller (k + 1)
   underway-take {sums} {rest} {k} {higher} {r} {smaller} so-far below there meet largest taken =
@@ -176,9 +177,9 @@ module _ {n : ℕ} {rows sizes order : List ℕ} {cover : ℕ} (ready : Ready n 
       let place : i < n = ready .places k below in
       let sum : ℕ = sizeIn sizes i + r in
       let same = getD-set-same sums i sum 0 (omega (arith, so-far .room, ready .few)) in
-      let known : (j : ℕ) → has cover j ≡ true → T (cell rows i j) → Settled n rows sizes cover j (getD sums j 0) =
+      let known : (j : ℕ) → bitAt cover j ≡ true → T (cell rows i j) → Settled n rows sizes cover j (getD sums j 0) =
       λ j h may.
-      either (has rest j)
+      either (bitAt rest j)
       (λ t.
       let (m, above, last, e) = so-far .later j t in
       absurd (omega (arith, ready .earlier k m below last (rw e may))))
@@ -196,7 +197,7 @@ module _ {n : ℕ} {rows sizes order : List ℕ} {cover : ℕ} (ready : Ready n 
             (m, omega arith, last, e);
         settled = λ j h g.
             without-outside rest i smaller taken j g
-            (λ o. rw (getD-set-other sums i j sum 0 (λ e. never (has rest i) there (rw (sym e) o))) (so-far .settled j h o))
+            (λ o. rw (getD-set-other sums i j sum 0 (λ e. never (bitAt rest i) there (rw (sym e) o))) (so-far .settled j h o))
             (λ e. rw (e, same) (settle n rows sizes cover place (so-far .inside i there) meet largest known));
         light = λ j.
             either (eqb j i)

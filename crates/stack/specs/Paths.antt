@@ -7,7 +7,7 @@ use mathlib.Core.Logic.{_⊎_}
 use lib.ListN.{getD}
 use Rattle.rules.specs.Preempt.{cell}
 use Rattle.rules.specs.Chains.{weight, Chain, Path, All, Largest}
-use Rattle.stack.specs.Places.{has}
+use Rattle.preempt.specs.Bits.{bitAt}
 
 -- the size at a place
 abbrev pub sizeIn : List ℕ → ℕ → ℕ
@@ -15,14 +15,14 @@ sizeIn sizes i = getD sizes i 0
 
 -- r is the largest of the sums at the set's places, or 0
 pub record LargestAt (sums : List ℕ) (set r : ℕ) : Type 0 where
-  pub most : (j : ℕ) → has set j ≡ true → getD sums j 0 ≤ r
-  pub reached : (r ≡ 0) ⊎ ((j : ℕ) × (has set j ≡ true) × (getD sums j 0 ≡ r))
+  pub most : (j : ℕ) → bitAt set j ≡ true → getD sums j 0 ≤ r
+  pub reached : (r ≡ 0) ⊎ ((j : ℕ) × (bitAt set j ≡ true) × (getD sums j 0 ≡ r))
 
 -- r is the largest sum of sizes over lists inside the cover where only neighbours must satisfy the relation
 abbrev pub PathBound : ℕ → List ℕ → List ℕ → ℕ → ℕ → Type 0
-PathBound n rows sizes cover r = Largest (λ c. Path n (cell rows) c × All (has cover) c) (weight (sizeIn sizes)) r
+PathBound n rows sizes cover r = Largest (λ c. Path n (cell rows) c × All (bitAt cover) c) (weight (sizeIn sizes)) r
 
 -- no chain inside the cover weighs more than r
 abbrev pub NoneAbove : ℕ → List ℕ → List ℕ → ℕ → ℕ → Type 0
 NoneAbove n rows sizes cover r =
-    (d : List ℕ) → Chain n (cell rows) d → All (has cover) d → weight (sizeIn sizes) d ≤ r
+    (d : List ℕ) → Chain n (cell rows) d → All (bitAt cover) d → weight (sizeIn sizes) d ≤ r

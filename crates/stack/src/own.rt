@@ -9,9 +9,9 @@ ghost use Rattle.rules.specs.Refusals.{accepted, tableVerdict};
 ghost use Rattle.stack.specs.Setting.{Ready};
 ghost use Rattle.stack.specs.Figures.{OwnPaths};
 use crate::path::path_bound;
-use crate::places::members;
 use image::bytes::two_bytes;
 use image::records::record_at;
+use preempt::bits::members;
 use table::count::count_kind;
 
 // For each transaction of an accepted table the path bound of the tasks with its number, added up.

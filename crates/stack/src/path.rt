@@ -2,11 +2,11 @@
 ghost use Rattle.stack.specs.Places.{Inside};
 ghost use Rattle.stack.specs.Setting.{Ready};
 ghost use Rattle.stack.specs.Paths.{LargestAt, PathBound, NoneAbove};
-use crate::places::has;
 use crate::places::lowest;
 use crate::places::shared;
 use crate::places::wide;
 use crate::places::without;
+use preempt::bits::is_set;
 
 // The largest of the sums at the places of a set, or 0.
 fn largest_at(sums: &[u32; 64], set: u64) -> u32
@@ -38,7 +38,7 @@ pub fn path_bound(rows: &[u64], sizes: &[u32], order: &[u8], count: usize, cover
     while 0 < rest {
         let place = wide(order[k]);
         k += 1;
-        if has(rest, place) {
+        if is_set(rest, place) {
             let higher = shared(rows[place], cover);
             sums[place] = sizes[place] + largest_at(&sums, higher);
             rest = without(rest, place);

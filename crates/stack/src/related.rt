@@ -2,21 +2,20 @@
 ghost use mathlib.Core.Path.{_≡_};
 ghost use Prim.Native.Nat.{_≤_};
 ghost use lib.ListN.{length};
-ghost use Rattle.stack.specs.Related.{Higher, RelatedRows};
+ghost use Rattle.rules.specs.Preempt.{rowFrom};
+ghost use Rattle.stack.specs.Related.{isHigher, RelatedRows};
 use crate::places::shared;
-use crate::places::with;
+use preempt::bits::with_bit_if;
 
 // The places below count of higher priority than this one.
 fn higher(priorities: &[u32], count: usize, priority: u32) -> u64
     requires { ⌜ (count ≤ 64) × (count ≤ length (now priorities)) ⌝ }
-    ensures { λ r. ⌜ Higher (now (priorities .entry)) count priority r ⌝ }
+    ensures { λ r. ⌜ r ≡ rowFrom count (isHigher (now (priorities .entry)) priority) ⌝ }
 {
     let mut set: u64 = 0;
     let mut place: usize = 0;
     while place < count {
-        if priority < priorities[place] {
-            set = with(set, place);
-        }
+        set = with_bit_if(set, place, priority < priorities[place]);
         place += 1;
     }
     set

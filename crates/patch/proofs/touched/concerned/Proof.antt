@@ -8,7 +8,7 @@ use lib.Dec.{eqb}
 use lib.ListN.{getD}
 use Rattle.rules.specs.Records.{kindOf, numberOf, secondOf}
 use Rattle.patch.specs.Touched.{concernsTask}
-use Rattle.patch.proofs.Touching.{marks-none, marks-either, concerns-transaction, concerns-task, concerns-pair, concerns-none}
+use Rattle.patch.proofs.Touching.{marks-none, marks-either, marks-members, concerns-transaction, concerns-task, concerns-pair, concerns-none}
 use Rattle.patch.proofs.touched.concerned.Statement.{statement}
 use Rattle.patch.proofs.touched.concerned.Tie as tie
 
@@ -18,8 +18,8 @@ byte-at-requires c κs = search needs
 two-bytes-requires : tie.Need-two-bytes-requires
 two-bytes-requires c κs = search needs
 
-tasks-of-requires : tie.Need-tasks-of-requires
-tasks-of-requires c κs = search needs
+members-requires : tie.Need-members-requires
+members-requires c κs = search needs
 
 returns : tie.Need-returns
 returns c =
@@ -28,7 +28,7 @@ returns c =
     let kind : kindOf fields ≡ 1 = omega (arith, c .before .before .before .byte-at .ensures, c .before .if1 .taken) in
     let number : c .before .before .two-bytes .result ≡ numberOf fields = c .before .before .two-bytes .ensures .0 in
     λ i l.
-    c .tasks-of .ensures i l
+    marks-members (a .transactions .now) (a .count) (c .before .before .two-bytes .result) (c .members .result) (omega arith) (c .members .ensures) i l
     ∙ rw number (concerns-transaction fields (getD (a .ids .now) i 0) (getD (a .transactions .now) i 0) kind)
 
 task-with-requires : tie.Need-task-with-requires
@@ -83,7 +83,7 @@ concerned-spec =
     (tie.spec
     byte-at-requires
     two-bytes-requires
-    tasks-of-requires
+    members-requires
     returns
     task-with-requires
     returns-2

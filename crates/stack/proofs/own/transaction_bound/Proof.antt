@@ -39,7 +39,7 @@ members-requires : tie.Need-members-requires Inv-loop μ-loop
 members-requires c κs = (c .before .before .before .before .before .before .before .before .before .before .pre .1 .0 .few, omega (arith, c .before .before .before .before .before .before .before .before .before .before .pre .1 .0 .few, c .before .before .before .before .before .before .before .before .before .before .pre .1 .1))
 
 path-bound-requires : tie.Need-path-bound-requires Inv-loop μ-loop
-path-bound-requires c κs = (c .before .before .before .before .before .before .before .before .before .before .before .pre .1 .0, members-inside (c .before .before .before .before .before .before .before .before .before .before .before .args .numbers .now) (c .before .before .before .before .before .before .before .before .before .before .before .args .count) (c .before .two-bytes .result) (c .members .result) (c .members .ensures))
+path-bound-requires c κs = (c .before .before .before .before .before .before .before .before .before .before .before .pre .1 .0, members-inside (c .before .before .before .before .before .before .before .before .before .before .before .args .numbers .now) (c .before .before .before .before .before .before .before .before .before .before .before .args .count) (c .before .two-bytes .result) (c .members .result) (c .before .before .before .before .before .before .before .before .before .before .before .pre .1 .0 .few) (c .members .ensures))
 
 cast-bound : tie.Need-cast-bound Inv-loop μ-loop
 cast-bound c = omega (arith, c .path-bound .ok)
@@ -60,7 +60,7 @@ loop-again c =
     let listed = Records·transactions (records image) in
     let inside : c .before .before .before .before .before .loop .t < length listed = omega (arith, c .before .before .before .before .before .before .count-kind .ensures .0, c .before .before .before .before .loop-test .taken) in
     let here : c .before .before .two-bytes .result ≡ numberOf (getD listed (c .before .before .before .before .before .loop .t) []) = c .before .before .two-bytes .ensures .0 ∙ ap numberOf (c .before .before .before .record-at .ensures ∙ transaction-record image (c .before .before .before .before .before .before .before .before .before .before .before .shared-slice-known .given) (c .before .before .before .before .before .before .before .before .before .before .before .before .pre .0) (c .before .before .before .before .before .loop .t) inside) in
-    let bound = members-own (a .count) (a .rows .now) (a .sizes .now) (a .numbers .now) listed (c .before .before .before .before .before .loop .t) (c .before .before .two-bytes .result) (c .before .members .result) (c .path-bound .result) here (c .before .members .ensures) (c .path-bound .ensures) in
+    let bound = members-own (a .count) (a .rows .now) (a .sizes .now) (a .numbers .now) listed (c .before .before .before .before .before .loop .t) (c .before .before .two-bytes .result) (c .before .members .result) (c .path-bound .result) here (c .before .before .before .before .before .before .before .before .before .before .before .before .pre .1 .0 .few) (c .before .members .ensures) (c .path-bound .ensures) in
     (omega (arith, c .before .before .before .before .loop-test .taken), omega (arith, c .path-bound .ok), own-more (a .count) (a .rows .now) (a .sizes .now) (a .numbers .now) listed (c .before .before .before .before .before .loop .t) (c .before .before .before .before .before .loop .total) (c .path-bound .result) (c .before .before .before .before .before .loop .inv .2) bound)
 
 returns : tie.Need-returns Inv-loop μ-loop

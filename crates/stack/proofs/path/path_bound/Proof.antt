@@ -40,8 +40,8 @@ wide-requires c κs = search needs
 add-k : tie.Need-add-k Inv-loop μ-loop
 add-k c = search needs
 
-has-requires : tie.Need-has-requires Inv-loop μ-loop
-has-requires c κs = place c .1
+is-set-requires : tie.Need-is-set-requires Inv-loop μ-loop
+is-set-requires c κs = place c .1
 
 mul-shared : tie.Need-mul-shared Inv-loop μ-loop
 mul-shared c = omega (arith, place (c .before .before))
@@ -80,7 +80,7 @@ array-write-sums : tie.Need-array-write-sums Inv-loop μ-loop
 array-write-sums c = place (c .before .before .before .before .before .before .before) .1
 
 without-requires : tie.Need-without-requires Inv-loop μ-loop
-without-requires c κs = (place (c .before .before .before .before .before .before .before) .1, sym (c .before .before .before .before .before .before .has .ensures) ∙ c .before .before .before .before .before .if1 .taken)
+without-requires c κs = (place (c .before .before .before .before .before .before .before) .1, sym (c .before .before .before .before .before .before .is-set .ensures) ∙ c .before .before .before .before .before .if1 .taken)
 
 loop-less : tie.Need-loop-less Inv-loop μ-loop
 loop-less c = omega (arith, left (c .before .before .before .before .before .before .before .before .before .before))
@@ -90,7 +90,7 @@ loop-again c =
     let start = c .before .before .before .before .before .before .before .before .before .before .before .before .before .before .before in
     rw (c .before .before .before .before .before .before .before .before .wide .ensures)
     (underway-take (start .pre .0) (c .before .before .before .before .before .before .before .before .before .before .before .loop .inv) (left (c .before .before .before .before .before .before .before .before .before .before))
-    (rw (c .before .before .before .before .before .before .before .before .wide .ensures) at (sym (c .before .before .before .before .before .before .before .has .ensures) ∙ c .before .before .before .before .before .before .if1 .taken))
+    (rw (c .before .before .before .before .before .before .before .before .wide .ensures) at (sym (c .before .before .before .before .before .before .before .is-set .ensures) ∙ c .before .before .before .before .before .before .if1 .taken))
     (rw (c .before .before .before .before .before .before .before .before .wide .ensures) at (c .before .before .before .before .shared .ensures))
     (c .before .largest-at .ensures)
     (rw (c .before .before .before .before .before .before .before .before .wide .ensures) at (c .without .ensures)))
@@ -102,7 +102,7 @@ loop-again-2 : tie.Need-loop-again-2 Inv-loop μ-loop
 loop-again-2 c =
     let start = c .before .before .before .before .before .before .before .before .before in
     underway-skip (start .pre .0) (c .before .before .before .before .before .loop .inv) (left (c .before .before .before .before))
-    (rw (c .before .before .wide .ensures) at (sym (c .before .has .ensures) ∙ c .if1 .left))
+    (rw (c .before .before .wide .ensures) at (sym (c .before .is-set .ensures) ∙ c .if1 .left))
 
 largest-at-requires-2 : tie.Need-largest-at-requires-2 Inv-loop μ-loop
 largest-at-requires-2 c κs = search needs
@@ -121,7 +121,7 @@ path-bound-spec =
     shared-slice-read-wide
     wide-requires
     add-k
-    has-requires
+    is-set-requires
     mul-shared
     shared-slice-read-shared
     shared-requires

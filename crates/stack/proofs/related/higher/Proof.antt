@@ -1,36 +1,29 @@
--- The loop's invariant: the set holds those of the places passed of higher priority.
-use Prim.Native.Nat.{_-_, _≤_}
-use mathlib.Core.Path.{_≡_}
-use mathlib.Core.Logic.{⊎-elim}
-use borrow.Author.Tests.{lt-ltb, le-ltb}
-use lib.ListN.{getD}
-use Rattle.stack.specs.Related.{isHigher, Higher}
-use Rattle.stack.proofs.Relating.{passing-none, passing-outside, passing-more, passing-skip}
+-- The loop's invariant: of the places passed the set holds those of higher priority.
+use Prim.Native.Nat.{_-_}
+use Rattle.stack.specs.Related.{isHigher}
+use Rattle.preempt.proofs.Choosing.{Chosen, chosen-none, chosen-more, chosen-all}
 use native.Mathlib.Omega.{arith}
 use borrow.Author.Needs.{needs}
 use Rattle.stack.proofs.related.higher.Statement.{statement}
 use Rattle.stack.proofs.related.higher.Tie as tie
 
 abbrev Inv-loop : tie.InvT-loop
-Inv-loop priorities count priority set₀ place₀ set place = (place ≤ count) × Higher priorities place priority set
+Inv-loop priorities count priority set₀ place₀ set place = Chosen (isHigher priorities priority) count place set
 
 abbrev μ-loop : tie.MeasureT-loop
 μ-loop priorities count priority set₀ place₀ set place = count - place
 
 loop-holds : tie.Need-loop-holds Inv-loop μ-loop
-loop-holds c = (omega arith, passing-none (isHigher (c .before .args .priorities .now) (c .before .args .priority)))
+loop-holds c = chosen-none
 
-mul-if1 : tie.Need-mul-if1 Inv-loop μ-loop
-mul-if1 c = search needs
+mul-with-bit-if : tie.Need-mul-with-bit-if Inv-loop μ-loop
+mul-with-bit-if c = search needs
 
-shared-slice-read-if1 : tie.Need-shared-slice-read-if1 Inv-loop μ-loop
-shared-slice-read-if1 c = search needs
+shared-slice-read-with-bit-if : tie.Need-shared-slice-read-with-bit-if Inv-loop μ-loop
+shared-slice-read-with-bit-if c = search needs
 
-with-requires : tie.Need-with-requires Inv-loop μ-loop
-with-requires c κs =
-    let start = c .before .before .before .before .before .args in
-    let loop = c .before .before .before .loop in
-    (omega arith, passing-outside (isHigher (start .priorities .now) (start .priority)) (loop .place) (loop .set) (loop .inv .1))
+with-bit-if-requires : tie.Need-with-bit-if-requires Inv-loop μ-loop
+with-bit-if-requires c κs = search needs
 
 add-place : tie.Need-add-place Inv-loop μ-loop
 add-place c = search needs
@@ -39,27 +32,10 @@ loop-less : tie.Need-loop-less Inv-loop μ-loop
 loop-less c = search needs
 
 loop-again : tie.Need-loop-again Inv-loop μ-loop
-loop-again c =
-    let priorities = c .before .before .before .before .before .args .priorities .now in
-    let priority = c .before .before .before .before .before .args .priority in
-    let place = c .before .before .before .loop .place in
-    let set = c .before .before .before .loop .set in
-    let so-far = c .before .before .before .loop .inv .1 in (
-      omega arith,
-      ⊎-elim
-          (λ w.
-          let passes = lt-ltb priority (getD priorities place 0) (omega (arith, w .0 .taken)) in
-          rw (w .2) (passing-more (isHigher priorities priority) place set (w .1 .result) so-far passes (w .1 .ensures)))
-          (λ w.
-          let fails = le-ltb priority (getD priorities place 0) (omega (arith, w .0 .left)) in
-          rw (w .1) (passing-skip (isHigher priorities priority) place set so-far fails))
-          (c .if1 .came),
-    )
+loop-again c = chosen-more (c .before .before .before .loop .inv) (omega arith) (omega arith) (c .with-bit-if .ensures)
 
 returns : tie.Need-returns Inv-loop μ-loop
-returns c =
-    let done : c .before .loop .place ≡ c .before .before .before .args .count = omega arith in
-    rw done at (c .before .loop .inv .1)
+returns c = chosen-all (c .before .loop .inv) (omega arith)
 
 pub higher-spec : {M : Type 1} → statement M
 higher-spec =
@@ -68,9 +44,9 @@ higher-spec =
     Inv-loop
     μ-loop
     loop-holds
-    mul-if1
-    shared-slice-read-if1
-    with-requires
+    mul-with-bit-if
+    shared-slice-read-with-bit-if
+    with-bit-if-requires
     add-place
     loop-less
     loop-again
