@@ -52,6 +52,10 @@ timedAt transactions priorities offsets jitters responses i =
       size = 0;
     }
 
--- the decision for two places, from the tasks and the forbidden pairs as they were read
+-- the decision for two places, from the periods, the forbidden pairs and the tasks by their places
+abbrev pub decidedOn : List ℕ → List ℕ → (ℕ → Task) → ℕ → ℕ → Bool
+decidedOn periods rows task i j = mayPreempt (getD periods i 0) (cell rows i j) (task i) (task j)
+
+-- the same, from the tasks and the forbidden pairs as they were read
 unfoldable pub decidedBy : Tasks → List ℕ → ℕ → ℕ → Bool
 decidedBy t rows i j = mayPreempt (getD (t .periods) i 0) (cell rows i j) (taskIn t i) (taskIn t j)

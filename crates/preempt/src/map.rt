@@ -8,12 +8,11 @@ ghost use Rattle.rules.specs.Preempt.{mayPreempt, rowFrom, mapFrom, mapOf};
 ghost use Rattle.rules.specs.Refusals.{accepted, tableVerdict};
 ghost use Rattle.rules.specs.Calls.{over, mapVerdict, mapAfter};
 ghost use Rattle.preempt.specs.Bits.{bitAt};
-ghost use Rattle.preempt.specs.Tasks.{timedAt, decidedBy};
+ghost use Rattle.preempt.specs.Tasks.{timedAt, decidedOn};
 use crate::barred::read_barred;
 use crate::bits::is_set;
 use crate::bits::power;
 use crate::decide::may_preempt;
-use crate::tasks::Tasks;
 use crate::tasks::read_tasks;
 use rules::Task;
 use rules::Verdict;
@@ -70,36 +69,32 @@ pub fn row(
     row
 }
 
-// The map of the tasks, where the bits of barred say which pairs of places are forbidden. The arrays are taken out of the
-// tasks once, and each row is lent them.
-pub fn map_of(tasks: Tasks, barred: [u64; 64]) -> [u64; 64]
-    requires { ⌜ tasks .count ≤ 64 ⌝ }
-    ensures { λ r. ⌜ r ≡ mapFrom (tasks .count) (decidedBy tasks barred) ⌝ }
+// The map of the tasks, where the bits of barred say which pairs of places are forbidden. Each row is lent the arrays.
+pub fn map_of(
+    transactions: &[u32; 64],
+    priorities: &[u32; 64],
+    offsets: &[u32; 64],
+    jitters: &[u32; 64],
+    responses: &[u32; 64],
+    periods: &[u32; 64],
+    barred: &[u64; 64],
+    count: usize,
+) -> [u64; 64]
+    requires { ⌜ count ≤ 64 ⌝ }
+    ensures { λ r. ⌜ r ≡ mapFrom count (decidedOn (now (periods .entry)) (now (barred .entry)) (timedAt (now (transactions .entry)) (now (priorities .entry)) (now (offsets .entry)) (now (jitters .entry)) (now (responses .entry)))) ⌝ }
 {
-    let transactions = tasks.transactions;
-    let priorities = tasks.priorities;
-    let offsets = tasks.offsets;
-    let jitters = tasks.jitters;
-    let responses = tasks.responses;
     let mut rows = [0u64; 64];
     let mut i: usize = 0;
-    while i < tasks.count {
-        let low = timed_at(
-            &transactions,
-            &priorities,
-            &offsets,
-            &jitters,
-            &responses,
-            i,
-        );
+    while i < count {
+        let low = timed_at(transactions, priorities, offsets, jitters, responses, i);
         rows[i] = row(
-            &transactions,
-            &priorities,
-            &offsets,
-            &jitters,
-            &responses,
-            tasks.count,
-            tasks.periods[i],
+            transactions,
+            priorities,
+            offsets,
+            jitters,
+            responses,
+            count,
+            periods[i],
             barred[i],
             low,
         );
@@ -128,7 +123,22 @@ pub fn table_map(image: &[u8]) -> [u64; 64]
     let tasks = read_tasks(image);
     let ids = tasks.ids;
     let barred = read_barred(image, &ids, tasks.count);
-    map_of(tasks, barred)
+    let transactions = tasks.transactions;
+    let priorities = tasks.priorities;
+    let offsets = tasks.offsets;
+    let jitters = tasks.jitters;
+    let responses = tasks.responses;
+    let periods = tasks.periods;
+    map_of(
+        &transactions,
+        &priorities,
+        &offsets,
+        &jitters,
+        &responses,
+        &periods,
+        &barred,
+        tasks.count,
+    )
 }
 
 // Fills a lent map from a table image: the verdict, and the map of the table in the first 64 rows. A refusal writes nothing.

@@ -3,6 +3,9 @@ use mathlib.Core.Path.{_∙_}
 use native.Mathlib.Omega.{arith}
 use borrow.Author.Needs.{needs}
 use Rattle.rules.specs.Blocks.{records}
+use Rattle.rules.proofs.Maps.{map-ext}
+use Rattle.preempt.specs.Tasks.{decidedOn, decidedBy}
+use Rattle.preempt.proofs.Maps.{timedIn, decided-timed}
 use Rattle.preempt.proofs.Reading.{ids-directory, map-read}
 use Rattle.preempt.proofs.Accepted.{shape}
 use Rattle.preempt.proofs.map.table_map.Statement.{statement}
@@ -22,15 +25,18 @@ read-barred-requires c κs =
 
 map-of-requires : tie.Need-map-of-requires
 map-of-requires c κs =
-    let start = c .before .before .before .before .before in
-    omega (arith, c .before .before .before .read-tasks .ensures .count, shape (start .args .image .now) (c .before .before .before .before .shared-slice-known .given) (start .pre) .few-tasks)
+    let start = c .before .before .before .before .before .before .before .before .before .before .before .before .before .before .before .before .before .before in
+    omega (arith, c .before .before .before .before .before .before .before .before .before .before .before .before .before .before .before .before .read-tasks .ensures .count, shape (start .args .image .now) (c .before .before .before .before .before .before .before .before .before .before .before .before .before .before .before .before .before .shared-slice-known .given) (start .pre) .few-tasks)
 
 returns : tie.Need-returns
 returns c =
-    let start = c .before .before .before .before .before .before in
-    let tasks = c .before .before .before .before .read-tasks in
-    let barred = c .before .read-barred in
-    c .map-of .ensures ∙ map-read (records (start .args .image .now)) (tasks .result) (barred .result) (shape (start .args .image .now) (c .before .before .before .before .before .shared-slice-known .given) (start .pre)) (tasks .ensures) (barred .ensures)
+    let start = c .before .before .before .before .before .before .before .before .before .before .before .before .before .before .before .before .before .before .before in
+    let tasks = c .before .before .before .before .before .before .before .before .before .before .before .before .before .before .before .before .before .read-tasks in
+    let barred = c .before .before .before .before .before .before .before .before .before .before .before .before .before .before .read-barred in
+    let timed = decidedOn (tasks .result .periods) (barred .result) (timedIn (tasks .result)) in
+    c .map-of .ensures
+    ∙ map-ext (tasks .result .count) timed (decidedBy (tasks .result) (barred .result)) (λ i j h l. decided-timed (tasks .result) (barred .result) i j)
+    ∙ map-read (records (start .args .image .now)) (tasks .result) (barred .result) (shape (start .args .image .now) (c .before .before .before .before .before .before .before .before .before .before .before .before .before .before .before .before .before .before .shared-slice-known .given) (start .pre)) (tasks .ensures) (barred .ensures)
 
 pub table-map-spec : {M : Type 1} → statement M
 table-map-spec =
