@@ -70,14 +70,14 @@ pub fn row(
 }
 
 // The map of the tasks, where the bits of barred say which pairs of places are forbidden. Each row is lent the arrays.
-pub fn map_of(
-    transactions: &[u32; 64],
-    priorities: &[u32; 64],
-    offsets: &[u32; 64],
-    jitters: &[u32; 64],
-    responses: &[u32; 64],
-    periods: &[u32; 64],
-    barred: &[u64; 64],
+pub fn map_of<'a>(
+    transactions: &'a [u32; 64],
+    priorities: &'a [u32; 64],
+    offsets: &'a [u32; 64],
+    jitters: &'a [u32; 64],
+    responses: &'a [u32; 64],
+    periods: &'a [u32; 64],
+    barred: &'a [u64; 64],
     count: usize,
 ) -> [u64; 64]
     requires { ⌜ count ≤ 64 ⌝ }
@@ -121,21 +121,14 @@ pub fn table_map(image: &[u8]) -> [u64; 64]
     ensures { λ r. ⌜ r ≡ mapOf (records (now (image .entry))) ⌝ }
 {
     let tasks = read_tasks(image);
-    let ids = tasks.ids;
-    let barred = read_barred(image, &ids, tasks.count);
-    let transactions = tasks.transactions;
-    let priorities = tasks.priorities;
-    let offsets = tasks.offsets;
-    let jitters = tasks.jitters;
-    let responses = tasks.responses;
-    let periods = tasks.periods;
+    let barred = read_barred(image, &tasks.ids, tasks.count);
     map_of(
-        &transactions,
-        &priorities,
-        &offsets,
-        &jitters,
-        &responses,
-        &periods,
+        &tasks.transactions,
+        &tasks.priorities,
+        &tasks.offsets,
+        &tasks.jitters,
+        &tasks.responses,
+        &tasks.periods,
         &barred,
         tasks.count,
     )

@@ -14,36 +14,32 @@ use Rattle.preempt.proofs.map.table_map.Tie as tie
 read-tasks-requires : tie.Need-read-tasks-requires
 read-tasks-requires c κs = search needs
 
-slice-aggregate-read-barred : tie.Need-slice-aggregate-read-barred
-slice-aggregate-read-barred c = search needs
-
 read-barred-requires : tie.Need-read-barred-requires
 read-barred-requires c κs =
-    let start = c .before .before .before .before in
-    let tasks = c .before .before .read-tasks in
-    (start .pre, ids-directory (records (start .args .image .now)) (tasks .result) (shape (start .args .image .now) (c .before .before .before .shared-slice-known .given) (start .pre)) (tasks .ensures))
+    let start = c .before .before .before .before .before in
+    let tasks = c .before .before .before .read-tasks in
+    (start .pre, ids-directory (records (start .args .image .now)) (tasks .result) (shape (start .args .image .now) (c .before .before .before .before .shared-slice-known .given) (start .pre)) (tasks .ensures))
 
 map-of-requires : tie.Need-map-of-requires
 map-of-requires c κs =
-    let start = c .before .before .before .before .before .before .before .before .before .before .before .before .before .before .before .before .before .before in
-    omega (arith, c .before .before .before .before .before .before .before .before .before .before .before .before .before .before .before .before .read-tasks .ensures .count, shape (start .args .image .now) (c .before .before .before .before .before .before .before .before .before .before .before .before .before .before .before .before .before .shared-slice-known .given) (start .pre) .few-tasks)
+    let start = c .before .before .before .before .before .before .before .before .before .before .before .before .before .before in
+    omega (arith, c .before .before .before .before .before .before .before .before .before .before .before .before .read-tasks .ensures .count, shape (start .args .image .now) (c .before .before .before .before .before .before .before .before .before .before .before .before .before .shared-slice-known .given) (start .pre) .few-tasks)
 
 returns : tie.Need-returns
 returns c =
-    let start = c .before .before .before .before .before .before .before .before .before .before .before .before .before .before .before .before .before .before .before in
-    let tasks = c .before .before .before .before .before .before .before .before .before .before .before .before .before .before .before .before .before .read-tasks in
-    let barred = c .before .before .before .before .before .before .before .before .before .before .before .before .before .before .read-barred in
+    let start = c .before .before .before .before .before .before .before .before .before .before .before .before .before .before .before in
+    let tasks = c .before .before .before .before .before .before .before .before .before .before .before .before .before .read-tasks in
+    let barred = c .before .before .before .before .before .before .before .before .before .read-barred in
     let timed = decidedOn (tasks .result .periods) (barred .result) (timedIn (tasks .result)) in
     c .map-of .ensures
     ∙ map-ext (tasks .result .count) timed (decidedBy (tasks .result) (barred .result)) (λ i j h l. decided-timed (tasks .result) (barred .result) i j)
-    ∙ map-read (records (start .args .image .now)) (tasks .result) (barred .result) (shape (start .args .image .now) (c .before .before .before .before .before .before .before .before .before .before .before .before .before .before .before .before .before .before .shared-slice-known .given) (start .pre)) (tasks .ensures) (barred .ensures)
+    ∙ map-read (records (start .args .image .now)) (tasks .result) (barred .result) (shape (start .args .image .now) (c .before .before .before .before .before .before .before .before .before .before .before .before .before .before .shared-slice-known .given) (start .pre)) (tasks .ensures) (barred .ensures)
 
 pub table-map-spec : {M : Type 1} → statement M
 table-map-spec =
     tie.close
     (tie.spec
     read-tasks-requires
-    slice-aggregate-read-barred
     read-barred-requires
     map-of-requires
     returns)
