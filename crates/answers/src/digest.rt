@@ -1,5 +1,5 @@
 // The digest of a buffer, as docs/STREAM.md describes it.
-ghost use Prim.Native.Nat.{_≤_, _<_};
+ghost use Prim.Native.Nat.{_<_};
 use image::bytes::byte_at;
 
 const MODULUS: u64 = 4_294_967_291;

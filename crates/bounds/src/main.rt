@@ -3,7 +3,6 @@
 mod input;
 mod print;
 
-ghost use mathlib.Core.Path.{_≡_};
 ghost use lib.ListN.{length};
 
 // Finds the bounds of a table over its own map, and prints them.

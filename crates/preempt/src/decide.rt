@@ -1,12 +1,11 @@
 // Equations (7) and (8) of the paper, for two tasks.
 ghost use mathlib.Core.Path.{_≡_};
-ghost use mathlib.Core.Bool.{_||_};
 ghost use Prim.Native.Nat.{_-_};
 ghost use Rattle.rules.specs.Preempt.{distance as Preempt·distance, timing as Preempt·timing, mayPreempt};
 use rules::Task;
 
 // The difference of two numbers, or 0 where the second is larger.
-fn excess(a: u32, b: u32) -> u32
+pub fn excess(a: u32, b: u32) -> u32
     ensures { λ r. ⌜ r ≡ a - b ⌝ }
 {
     if a < b { 0 } else { a - b }

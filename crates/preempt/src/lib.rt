@@ -3,4 +3,5 @@ pub mod barred;
 pub mod bits;
 pub mod decide;
 pub mod map;
+pub mod places;
 pub mod tasks;

@@ -1,7 +1,6 @@
 // The tasks of a table, read once into arrays by their places.
 ghost use mathlib.Core.Path.{_≡_};
 ghost use mathlib.Core.Bool.{true};
-ghost use Prim.Native.Nat.{_≤_};
 ghost use lib.ListN.{length};
 ghost use Rattle.rules.specs.Blocks.{records};
 ghost use Rattle.rules.specs.Records.{jitterOf, taskOf, transactions, periodIn};

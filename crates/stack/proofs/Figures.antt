@@ -21,7 +21,7 @@ use Rattle.stack.proofs.Columns.{field-total}
 use Rattle.rules.specs.Chains.{weight, Chain, Path, All, Before, Largest, Heaviest, related, sizeAt, idAt, priorityAt, inTransaction, TransactionBound, levelBound}
 use Rattle.rules.specs.Chains.Before.{less, later, shorter}
 use Rattle.preempt.specs.Bits.{bitAt}
-use Rattle.stack.specs.Places.{Below}
+use Rattle.preempt.specs.Places.{Below}
 
 -- every place of the list is below n
 abbrev pub Within : ℕ → List ℕ → Type 0

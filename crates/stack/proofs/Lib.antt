@@ -1,4 +1,3 @@
-pub mod Sets
 pub mod Sums
 pub mod Meeting
 pub mod Opening
@@ -12,3 +11,4 @@ pub mod Writing
 pub mod Owning
 pub mod Readying
 pub mod Calling
+pub mod Renaming

@@ -15,7 +15,7 @@ use Rattle.rules.proofs.Numbers.{either, sumTo-zero, sumTo-step, sumTo-ext}
 use Rattle.rules.proofs.Tests.{both-first}
 use Rattle.rules.proofs.Maps.{row-at}
 use Rattle.preempt.specs.Bits.{bitAt, numbered}
-use Rattle.stack.specs.Places.{Inside}
+use Rattle.preempt.specs.Places.{Inside}
 use Rattle.stack.specs.Paths.{sizeIn, PathBound}
 use Rattle.stack.specs.Figures.{ownTask, OwnPaths}
 use Rattle.stack.proofs.Figures.{largest-as}

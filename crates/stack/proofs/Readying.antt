@@ -22,10 +22,20 @@ use Rattle.preempt.specs.Tasks.{TasksRead}
 use Rattle.preempt.proofs.Accepted.{shape}
 use Rattle.preempt.proofs.Columns.{column-length}
 use Rattle.stack.specs.Order.{Falling}
-use Rattle.stack.specs.Setting.{Ready, Rising}
+use Rattle.stack.specs.Setting.{Arrays, Ready, Rising}
 use Rattle.stack.specs.Related.{RelatedRows}
 use Rattle.stack.proofs.Inserting.{falling-ready}
 use Rattle.stack.proofs.Columns.{field-total}
+
+-- what the search asks of it
+pub ready-arrays : {n : ℕ} {rows sizes order : List ℕ} → Ready n rows sizes order → Arrays n rows sizes
+ready-arrays ready =
+    record {
+      few = ready .few;
+      row-count = ready .row-count;
+      size-count = ready .size-count;
+      light = ready .light;
+    }
 
 module _ (image : List ℕ) (known : (k : ℕ) → Fits w8 (getD image k 0)) (right : accepted (tableVerdict image) ≡ true) (t : Tasks) (read : TasksRead (records image) t) where
   accepted-shape : Shape (records image)
@@ -67,6 +77,9 @@ module _ (image : List ℕ) (known : (k : ℕ) → Fits w8 (getD image k 0)) (ri
   rows-rising lent rows related =
       record {
         priority-count = priorities-long;
+        tasks = λ i j may.
+            let both = both-first (ltb i (t .count) && ltb j (t .count)) _ (sym (related .cells i j) ∙ T-true (cell rows i j) may) in
+            (ltb-true i (t .count) (both-first (ltb i (t .count)) (ltb j (t .count)) both), ltb-true j (t .count) (both-second (ltb i (t .count)) (ltb j (t .count)) both));
         rises = λ i j h k may.
             let both = sym (related .cells i j) ∙ T-true (cell rows i j) may in
             ltb-true (getD (t .priorities) i 0) (getD (t .priorities) j 0) (both-first (ltb (getD (t .priorities) i 0) (getD (t .priorities) j 0)) (cell lent i j) (both-second (ltb i (t .count) && ltb j (t .count)) _ both));

@@ -1,7 +1,7 @@
-pub mod Places
 pub mod Order
 pub mod Setting
 pub mod Paths
+pub mod Naming
 pub mod Search
 pub mod Related
 pub mod Levels

@@ -15,10 +15,10 @@ use crate::levels::level_bound;
 use crate::order::by_falling_priority;
 use crate::own::transaction_bound;
 use crate::path::path_bound;
-use crate::places::all_below;
-use crate::places::wide;
 use crate::related::related_rows;
 use crate::search::heaviest_chain;
+use preempt::places::all_below;
+use preempt::places::wide;
 use preempt::tasks::Tasks;
 use preempt::tasks::read_tasks;
 use rules::Bounds;
@@ -67,7 +67,7 @@ fn find_over(
     requires { ⌜ length (now numbers) ≡ 64 ⌝ }
     ensures { λ r. ⌜ FoundOver count (now (rows .entry)) (now (sizes .entry)) (now (priorities .entry)) (now (numbers .entry)) (transactions (records (now (image .entry)))) r ⌝ }
 {
-    let best = heaviest_chain(rows, sizes, priorities, order, count);
+    let best = heaviest_chain(rows, sizes, priorities, count);
     let path = path_bound(rows, sizes, order, count, all_below(count));
     let own = transaction_bound(image, numbers, rows, sizes, order, count);
     let levels = level_bound(priorities, sizes, count);

@@ -1,12 +1,12 @@
 // The largest sum of sizes over paths: lists of places where only neighbours must satisfy the relation.
-ghost use Rattle.stack.specs.Places.{Inside};
+ghost use Rattle.preempt.specs.Places.{Inside};
 ghost use Rattle.stack.specs.Setting.{Ready};
-ghost use Rattle.stack.specs.Paths.{LargestAt, PathBound, NoneAbove};
-use crate::places::lowest;
-use crate::places::shared;
-use crate::places::wide;
-use crate::places::without;
+ghost use Rattle.stack.specs.Paths.{LargestAt, PathBound};
 use preempt::bits::is_set;
+use preempt::places::lowest;
+use preempt::places::shared;
+use preempt::places::wide;
+use preempt::places::without;
 
 // The largest of the sums at the places of a set, or 0.
 fn largest_at(sums: &[u32; 64], set: u64) -> u32
@@ -45,13 +45,4 @@ pub fn path_bound(rows: &[u64], sizes: &[u32], order: &[u8], count: usize, cover
         }
     }
     largest_at(&sums, cover)
-}
-
-// What is asked above a chain: no chain inside the cover weighs more than this.
-pub fn above(rows: &[u64], sizes: &[u32], order: &[u8], count: usize, cover: u64) -> u32
-    requires { ⌜ Ready count (now rows) (now sizes) (now order) ⌝ }
-    requires { ⌜ Inside count cover ⌝ }
-    ensures { λ r. ⌜ NoneAbove count (now (rows .entry)) (now (sizes .entry)) cover r ⌝ }
-{
-    path_bound(rows, sizes, order, count, cover)
 }

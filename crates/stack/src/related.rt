@@ -4,8 +4,8 @@ ghost use Prim.Native.Nat.{_≤_};
 ghost use lib.ListN.{length};
 ghost use Rattle.rules.specs.Preempt.{rowFrom};
 ghost use Rattle.stack.specs.Related.{isHigher, RelatedRows};
-use crate::places::shared;
 use preempt::bits::with_bit_if;
+use preempt::places::shared;
 
 // The places below count of higher priority than this one.
 fn higher(priorities: &[u32], count: usize, priority: u32) -> u64

@@ -1,6 +1,6 @@
 -- The loop keeps that the sums so far and the weighted bytes are together the last sum, once more than bytes are passed.
-use Prim.Native.Nat.{ℕ, _+_, _*_, _-_, _%_, _≤_, _<_}
-use mathlib.Core.Path.{_≡_, refl, ap, sym, _∙_}
+use Prim.Native.Nat.{ℕ, _+_, _*_, _-_, _%_, _≤_}
+use mathlib.Core.Path.{_≡_, ap, sym, _∙_}
 use mathlib.Core.List.{List}
 use native.Mathlib.Nat.{mul-add, add-mul, one-mul}
 use native.Mathlib.Omega.{arith}

@@ -3,13 +3,14 @@ use mathlib.Core.Path.{sym, _∙_}
 use borrow.Author.Tests.{ltb-true}
 use Rattle.rules.specs.Preempt.{cell}
 use Rattle.stack.specs.Paths.{sizeIn}
+use Rattle.stack.proofs.Readying.{ready-arrays}
 use Rattle.stack.proofs.Figures.{largest-all}
 use borrow.Author.Needs.{needs}
 use Rattle.stack.proofs.call.find_over.Statement.{statement}
 use Rattle.stack.proofs.call.find_over.Tie as tie
 
 heaviest-chain-requires : tie.Need-heaviest-chain-requires
-heaviest-chain-requires c κs = search needs
+heaviest-chain-requires c κs = (ready-arrays (c .before .before .before .before .before .before .pre .1 .0), c .before .before .before .before .before .before .pre .1 .1 .0)
 
 all-below-requires : tie.Need-all-below-requires
 all-below-requires c κs = search needs
