@@ -8,23 +8,23 @@ use std::process::ExitCode;
 use second::answer::answer;
 use second::blocks::{image_of, Form, BLOCK_BYTES};
 use second::figure2::figure2;
-use second::generate::write_stream;
+use second::generate::{write_stream, Wanted};
 use second::numbered_cases::{patch_of, runs_of};
 use second::report::report;
 use second::sorts::Sorts;
-use second::stream::{Call, Case};
+use second::stream::Case;
 
 const USAGE: &str =
     "usage: second bounds | generate SEED LETTERS COUNT | answer | sorts | figure2 \
                      | patch NUMBER | case NUMBER \
-                     (LETTERS are some of T, P, M, B, A and R; NUMBER is 11, 12 or 13)";
+                     (LETTERS are some of T, P, M, B, A, R and L; NUMBER is 11, 12 or 13)";
 
 /// What the command line asks for.
 enum Command {
     Bounds,
     Generate {
         seed: u64,
-        calls: Vec<Call>,
+        wanted: Vec<Wanted>,
         count: usize,
     },
     Answer,
@@ -61,17 +61,17 @@ fn command_from(words: &[&str]) -> Option<Command> {
         ["case", number] => runs_of(number.parse().ok()?).map(Command::Runs),
         ["generate", seed, letters, count] => Some(Command::Generate {
             seed: seed.parse().ok()?,
-            calls: calls_from(letters)?,
+            wanted: wanted_from(letters)?,
             count: count.parse().ok()?,
         }),
         _ => None,
     }
 }
 
-/// The calls with these letters, if every letter has one and there is at least one.
-fn calls_from(letters: &str) -> Option<Vec<Call>> {
-    let calls: Option<Vec<Call>> = letters.bytes().map(Call::from_letter).collect();
-    calls.filter(|calls| !calls.is_empty())
+/// What these letters ask for, if every letter asks for something and there is at least one.
+fn wanted_from(letters: &str) -> Option<Vec<Wanted>> {
+    let wanted: Option<Vec<Wanted>> = letters.bytes().map(Wanted::from_letter).collect();
+    wanted.filter(|wanted| !wanted.is_empty())
 }
 
 fn run(command: Command) -> io::Result<()> {
@@ -79,7 +79,11 @@ fn run(command: Command) -> io::Result<()> {
     let mut output = BufWriter::new(io::stdout().lock());
     match command {
         Command::Bounds => output.write_all(report(&read_image(&mut input)?).as_bytes())?,
-        Command::Generate { seed, calls, count } => write_stream(seed, &calls, count, &mut output)?,
+        Command::Generate {
+            seed,
+            wanted,
+            count,
+        } => write_stream(seed, &wanted, count, &mut output)?,
         Command::Answer => answer_all(&mut input, &mut output)?,
         Command::Sorts => output.write_all(sorts_in(&mut input)?.lines().as_bytes())?,
         Command::Figure2 => output.write_all(&image_of(Form::Table, &figure2().records()))?,

@@ -1,12 +1,15 @@
 //! The generator: the same bytes for the same arguments, every refusal, about half accepted.
 
-use std::collections::BTreeMap;
+use std::collections::{BTreeMap, BTreeSet};
 
 use second::answer::answer;
-use second::bound_call::ID_ENTRIES;
-use second::generate::{write_stream, Generator};
+use second::bound_call::{bound_call, ID_ENTRIES};
+use second::generate::large_cases::CLASSES;
+use second::generate::{write_stream, Generator, Wanted};
+use second::preempt::true_map;
 use second::records::{Task, TASK};
 use second::stream::{Call, Case};
+use second::table::Table;
 use second::verdict::records_of_table;
 
 const CASES: usize = 2000;
@@ -80,13 +83,13 @@ fn refusals_are_met_at_low_and_high_places() {
 
 /// The stream of this seed over all calls.
 fn stream(seed: u64, count: usize) -> Vec<u8> {
-    let calls: Vec<Call> = b"TPMBAR"
+    let wanted: Vec<Wanted> = b"TPMBARL"
         .iter()
         .copied()
-        .filter_map(Call::from_letter)
+        .filter_map(Wanted::from_letter)
         .collect();
     let mut bytes = Vec::new();
-    write_stream(seed, &calls, count, &mut bytes).expect("a stream in memory");
+    write_stream(seed, &wanted, count, &mut bytes).expect("a stream in memory");
     bytes
 }
 
@@ -133,6 +136,74 @@ fn large_tables_in_bound_calls_have_few_priorities_or_a_thin_map() {
             .map(|row| row.count_ones())
             .sum();
         assert!(!many_tasks || priorities.len() <= 10 || cells < 1024);
+    }
+}
+
+/// What tells the classes of large tables apart.
+#[derive(Clone, Copy, PartialEq, Eq, PartialOrd, Ord, Debug)]
+struct LargeClass {
+    transactions: usize,
+    has_high_priorities: bool,
+    is_full_of_pairs: bool,
+    map: MapClass,
+}
+
+#[derive(Clone, Copy, PartialEq, Eq, PartialOrd, Ord, Debug)]
+enum MapClass {
+    Own,
+    Triples,
+    /// The nearest of the parts of a hundred that random maps have set.
+    Percent(usize),
+}
+
+/// The class that this table and this map are of.
+fn class_of(table: &Table, map: &[u64]) -> LargeClass {
+    LargeClass {
+        transactions: table.transactions.len(),
+        has_high_priorities: table.tasks.iter().any(|task| task.priority > 32),
+        is_full_of_pairs: table.pairs.len() == 256,
+        map: map_class_of(table, &map[..64]),
+    }
+}
+
+fn map_class_of(table: &Table, map: &[u64]) -> MapClass {
+    let tasks = table.tasks.len();
+    let among_tasks = u64::MAX >> (64 - tasks);
+    let unset_in_row = |row: &u64| (!row & among_tasks).count_ones();
+    if map == true_map(table) {
+        return MapClass::Own;
+    }
+    if map[..tasks].iter().all(|row| unset_in_row(row) == 3) {
+        return MapClass::Triples;
+    }
+    let set: u32 = map.iter().map(|row| row.count_ones()).sum();
+    let distance = |percent: &usize| (percent * 64 * 64).abs_diff(set as usize * 100);
+    let nearest = [50, 80, 90, 95, 98].into_iter().min_by_key(distance);
+    MapClass::Percent(nearest.expect("a nearest part"))
+}
+
+#[test]
+fn every_class_of_large_tables_is_met_in_turn() {
+    let mut generator = Generator::from_seed(16);
+    for _ in 0..20 {
+        let mut met = BTreeSet::new();
+        for _ in 0..CLASSES {
+            let case = generator.next_large_case();
+            let table = Table::read(&records_of_table(&case.image).expect("a sound table"));
+            assert!((60..=64).contains(&table.tasks.len()));
+            met.insert(class_of(&table, &case.map_read));
+        }
+        assert_eq!(met.len(), CLASSES);
+    }
+}
+
+#[test]
+fn large_tables_are_accepted_and_some_of_their_tasks_nest() {
+    let mut generator = Generator::from_seed(17);
+    for _ in 0..4 * CLASSES {
+        let mut case = generator.next_large_case();
+        let bounds = bound_call(&case.image, &case.map_read, &mut case.ids);
+        assert!(bounds.expect("a call that is accepted").length > 1);
     }
 }
 

@@ -47,6 +47,30 @@ fn any_map(random: &mut Random, table: &Table) -> Vec<u64> {
     }
 }
 
+/// A map of 64 rows with about so many of a hundred cells set.
+pub fn map_of_percent(random: &mut Random, percent: usize) -> Vec<u64> {
+    let row = |random: &mut Random| {
+        (0..MAP_ROWS)
+            .filter(|_| random.rank(100) < percent)
+            .fold(0, |bits, cell| bits | 1 << cell)
+    };
+    (0..MAP_ROWS).map(|_| row(random)).collect()
+}
+
+/// A map in which the tasks fall into triples by chance, and all cells but those inside a triple are set.
+pub fn map_of_triples(random: &mut Random, tasks: usize) -> Vec<u64> {
+    let mut places: Vec<usize> = (0..tasks).collect();
+    for place in 0..tasks {
+        places.swap(place, random.rank(place + 1));
+    }
+    let mut map = vec![u64::MAX; MAP_ROWS];
+    for triple in places.chunks(3) {
+        let inside = triple.iter().fold(0, |set, place| set | 1 << place);
+        triple.iter().for_each(|place| map[*place] = !inside);
+    }
+    map
+}
+
 /// The true map with random cells in the rows and columns beyond the tasks.
 pub fn true_map_and_more(random: &mut Random, table: &Table) -> Vec<u64> {
     let tasks = table.tasks.len();

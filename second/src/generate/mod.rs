@@ -5,6 +5,7 @@ mod damaged_images;
 mod edits;
 mod field_faults;
 mod frame_damage;
+pub mod large_cases;
 mod map_cases;
 mod maps;
 mod misfits;
@@ -25,10 +26,29 @@ use crate::generate::patch_cases::PatchRun;
 use crate::generate::random::Random;
 use crate::stream::{Call, Case};
 
+/// What a stream is to hold: any cases of a call, or bound calls on large tables.
+#[derive(Clone, Copy, PartialEq, Eq, Debug)]
+pub enum Wanted {
+    Any(Call),
+    LargeBound,
+}
+
+impl Wanted {
+    /// What this letter asks for: `L` for large tables, else the call's own letter.
+    pub fn from_letter(letter: u8) -> Option<Wanted> {
+        match letter {
+            b'L' => Some(Wanted::LargeBound),
+            _ => Call::from_letter(letter).map(Wanted::Any),
+        }
+    }
+}
+
 /// Makes one case after another, each depending on the seed and the cases before it.
 pub struct Generator {
     random: Random,
     run: PatchRun,
+    /// How many bound calls on large tables there were, which gives the class of the next.
+    large: usize,
 }
 
 impl Generator {
@@ -36,7 +56,26 @@ impl Generator {
     pub fn from_seed(seed: u64) -> Generator {
         let mut random = Random::from_seed(seed);
         let run = PatchRun::start(&mut random);
-        Generator { random, run }
+        Generator {
+            random,
+            run,
+            large: 0,
+        }
+    }
+
+    /// The next case, of the sort that is wanted.
+    pub fn next_wanted(&mut self, wanted: Wanted) -> Case {
+        match wanted {
+            Wanted::Any(call) => self.next_case(call),
+            Wanted::LargeBound => self.next_large_case(),
+        }
+    }
+
+    /// The next bound call on a large table, of the class after the last one's.
+    pub fn next_large_case(&mut self) -> Case {
+        let number = self.large;
+        self.large += 1;
+        large_cases::draw(&mut self.random, number)
     }
 
     /// The next case, for the call that is asked for.
@@ -52,17 +91,17 @@ impl Generator {
     }
 }
 
-/// Writes `count` cases that cycle through the calls.
+/// Writes `count` cases that cycle through what is wanted.
 pub fn write_stream(
     seed: u64,
-    calls: &[Call],
+    wanted: &[Wanted],
     count: usize,
     output: &mut impl Write,
 ) -> io::Result<()> {
     let mut generator = Generator::from_seed(seed);
-    calls
+    wanted
         .iter()
         .cycle()
         .take(count)
-        .try_for_each(|call| generator.next_case(*call).write(output))
+        .try_for_each(|one| generator.next_wanted(*one).write(output))
 }

@@ -85,12 +85,17 @@ fn shape_of_whole_blocks(random: &mut Random) -> Shape {
 /// A table of this shape; pairs that the tasks do not give room for are left out.
 pub fn table_of_shape(random: &mut Random, shape: Shape) -> Table {
     let style = Style::draw(random, shape.tasks);
+    table_of_style(random, shape, &style)
+}
+
+/// A table of this shape with tasks of this style.
+pub fn table_of_style(random: &mut Random, shape: Shape, style: &Style) -> Table {
     let numbers = distinct_numbers(random, shape.transactions);
     let transactions: Vec<Transaction> = numbers
         .into_iter()
         .map(|number| Transaction {
             number,
-            period: draw_period(random, &style),
+            period: draw_period(random, style),
         })
         .collect();
     let ids = distinct_numbers(random, shape.tasks);
@@ -98,7 +103,7 @@ pub fn table_of_shape(random: &mut Random, shape: Shape) -> Table {
         .iter()
         .map(|id| {
             let transaction = random.pick(&transactions);
-            draw_task(random, &style, *id, &transaction)
+            draw_task(random, style, *id, &transaction)
         })
         .collect();
     let pairs = draw_pairs(random, &ids, shape.pairs);

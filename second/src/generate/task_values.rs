@@ -11,6 +11,17 @@ pub struct Style {
     priorities: Vec<u16>,
     stacks: Vec<u16>,
     longest_period: u32,
+    times: Times,
+}
+
+/// How the offsets, jitters and responses of a table are drawn.
+#[derive(Clone, Copy)]
+enum Times {
+    /// Over their whole ranges, often at the ends.
+    Any,
+    /// As section 6 of the paper has them: offsets in the first half of the period, no jitter, and
+    /// from offset to response at most the period divided by `parts`.
+    Brief { parts: u32 },
 }
 
 /// Tables with more tasks than this mostly have few priorities, and a thin map where they have many.
@@ -19,12 +30,7 @@ pub const MANY_TASKS: usize = 30;
 impl Style {
     /// A style for a table of this many tasks.
     pub fn draw(random: &mut Random, tasks: usize) -> Style {
-        let stacks = match random.rank(5) {
-            0 => vec![random.short(1, 9)],
-            1 => vec![1, 2, 3],
-            2 => vec![1, u16::MAX],
-            _ => (0..tasks.max(1)).map(|_| random.short(1, 500)).collect(),
-        };
+        let stacks = draw_stacks(random, tasks);
         let most = match tasks {
             ..=MANY_TASKS => random.pick(&[1, 4, 10, 255]),
             _ if stacks.len() <= 3 => 6,
@@ -34,7 +40,39 @@ impl Style {
             priorities: draw_priorities(random, most),
             stacks,
             longest_period: random.pick(&[1, 2, 10, 100, 10_000, MOST_PERIOD]),
+            times: Times::Any,
         }
+    }
+
+    /// A style for a table of this many tasks with priorities from 1 to the most urgent, mostly as in
+    /// section 6 of the paper.
+    pub fn draw_large(random: &mut Random, tasks: usize, most_urgent: u16) -> Style {
+        let stacks = match random.one_in(3) {
+            true => draw_stacks(random, tasks),
+            false => (0..tasks).map(|_| random.short(128, 2048)).collect(),
+        };
+        let times = match random.one_in(3) {
+            true => Times::Any,
+            false => Times::Brief {
+                parts: random.pick(&[2, 5, 20]),
+            },
+        };
+        Style {
+            priorities: (1..=most_urgent).collect(),
+            stacks,
+            longest_period: 10_000,
+            times,
+        }
+    }
+}
+
+/// Sizes to pick from, sometimes so few that many chains weigh the same.
+fn draw_stacks(random: &mut Random, tasks: usize) -> Vec<u16> {
+    match random.rank(5) {
+        0 => vec![random.short(1, 9)],
+        1 => vec![1, 2, 3],
+        2 => vec![1, u16::MAX],
+        _ => (0..tasks.max(1)).map(|_| random.short(1, 500)).collect(),
     }
 }
 
@@ -60,18 +98,14 @@ pub fn draw_period(random: &mut Random, style: &Style) -> u32 {
 
 /// A task of this transaction with every value in its range.
 pub fn draw_task(random: &mut Random, style: &Style, id: u16, transaction: &Transaction) -> Task {
-    let offset = match random.rank(5) {
-        0 => 0,
-        1 => transaction.period - 1,
-        _ => random.time(0, transaction.period - 1),
-    };
+    let offset = draw_offset(random, style.times, transaction.period);
     Task {
         id,
         transaction: transaction.number,
         priority: random.pick(&style.priorities),
         offset,
-        jitter: draw_jitter(random, transaction.period),
-        response: draw_response(random, offset, transaction.period),
+        jitter: draw_jitter(random, style.times, transaction.period),
+        response: draw_response(random, style.times, offset, transaction.period),
         stack: random.pick(&style.stacks),
     }
 }
@@ -82,7 +116,21 @@ pub fn draw_lone_task(random: &mut Random, id: u16, transaction: &Transaction) -
     draw_task(random, &style, id, transaction)
 }
 
-fn draw_jitter(random: &mut Random, period: u32) -> u32 {
+fn draw_offset(random: &mut Random, times: Times, period: u32) -> u32 {
+    if let Times::Brief { .. } = times {
+        return random.time(0, (period - 1) / 2);
+    }
+    match random.rank(5) {
+        0 => 0,
+        1 => period - 1,
+        _ => random.time(0, period - 1),
+    }
+}
+
+fn draw_jitter(random: &mut Random, times: Times, period: u32) -> u32 {
+    if let Times::Brief { .. } = times {
+        return 0;
+    }
     match random.rank(8) {
         0..=2 => 0,
         3 => MISSING_JITTER,
@@ -93,7 +141,10 @@ fn draw_jitter(random: &mut Random, period: u32) -> u32 {
     }
 }
 
-fn draw_response(random: &mut Random, offset: u32, period: u32) -> u32 {
+fn draw_response(random: &mut Random, times: Times, offset: u32, period: u32) -> u32 {
+    if let Times::Brief { parts } = times {
+        return offset + random.time(0, period / parts);
+    }
     match random.rank(6) {
         0 => offset,
         1 => offset + 1,
