@@ -20,8 +20,8 @@ struct plain_patched {
     uint32_t number, place, touched, length;
 };
 
-/* The chains that the searches have opened, and how many they may open: a search past it ends early with a wrong answer. */
-extern uint64_t plain_chains_opened, plain_chains_allowed;
+/* The sets that the ceilings have visited, and how many they may visit: a search past it ends early with a wrong answer. */
+extern uint64_t plain_sets_visited, plain_sets_allowed;
 
 struct plain_verdict plain_map(const uint8_t *image, size_t bytes, uint64_t *rows, size_t row_count);
 

@@ -28,11 +28,19 @@ static const struct random_class random_classes[] = {
     {"64 tasks, 16 transactions, priorities to 255", 64, 16, 255, BASE_LOAD_PERCENT},
 };
 
-/* Writes the classes of random tables. */
-static void write_random_tables(void)
+/* The same as the last with fewer tasks, to see how the cost grows. */
+static const struct random_class growing_classes[] = {
+    {"10 tasks, 16 transactions, priorities to 255", 10, 16, 255, BASE_LOAD_PERCENT},
+    {"20 tasks, 16 transactions, priorities to 255", 20, 16, 255, BASE_LOAD_PERCENT},
+    {"40 tasks, 16 transactions, priorities to 255", 40, 16, 255, BASE_LOAD_PERCENT},
+    {"50 tasks, 16 transactions, priorities to 255", 50, 16, 255, BASE_LOAD_PERCENT},
+};
+
+/* Writes classes of random tables. */
+static void write_random_tables(const struct random_class *classes, size_t count)
 {
-    for (size_t c = 0; c < sizeof random_classes / sizeof random_classes[0]; c++) {
-        const struct random_class *class = &random_classes[c];
+    for (size_t c = 0; c < count; c++) {
+        const struct random_class *class = &classes[c];
         for (size_t k = 0; k < INPUTS_OF_CLASS; k++) {
             struct table table =
                 random_table(class->tasks, class->transactions, class->most_urgent, class->load_percent);
@@ -99,7 +107,7 @@ int main(int argc, char **argv)
         write_only_first();
     start_random(1);
     write_table_case("figure 2", &table, NULL);
-    write_random_tables();
+    write_random_tables(random_classes, sizeof random_classes / sizeof random_classes[0]);
     write_full_tables();
     for (size_t tasks = 30; tasks <= 64; tasks += 34) {
         write_lent_maps(tasks, 50);
@@ -107,6 +115,9 @@ int main(int argc, char **argv)
         write_lent_maps(tasks, 90);
         write_lent_maps(tasks / 3 * 3, 0);
     }
+    write_lent_maps(64, 95);
+    write_lent_maps(64, 98);
+    write_random_tables(growing_classes, sizeof growing_classes / sizeof growing_classes[0]);
     write_patches();
     return 0;
 }

@@ -7,6 +7,7 @@
 #include <stdint.h>
 
 enum { MOST_TRANSACTIONS = 16, MOST_TASKS = 64, MOST_PAIRS = 256, MOST_RECORDS = 672, RECORD_BYTES = 32 };
+enum { BLOCK_BYTES = 512, MOST_BYTES = 45 * BLOCK_BYTES };
 
 struct transaction {
     uint32_t number, period;
@@ -44,6 +45,7 @@ void triples_map(size_t tasks, uint64_t rows[64]);
 struct table with_task(const struct table *base);
 void change_tasks(const struct table *base, size_t count, struct table *out, struct table *in);
 
+size_t make_table(const struct table *table, uint8_t image[MOST_BYTES]);
 void write_only_first(void);
 void write_table_case(const char *class, const struct table *table, const uint64_t *rows);
 void write_patch_case(const char *class, const struct table *base, const struct table *out, const struct table *in);

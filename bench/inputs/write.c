@@ -4,7 +4,7 @@
 #include <stdio.h>
 #include <string.h>
 
-enum { BLOCK_BYTES = 512, RECORDS_PER_BLOCK = 15, MOST_BYTES = 45 * BLOCK_BYTES };
+enum { RECORDS_PER_BLOCK = 15 };
 
 static bool only_first;
 
@@ -92,6 +92,15 @@ static size_t make_image(const char *mark, const struct records *records, uint8_
     return BLOCK_BYTES * total;
 }
 
+/* Makes the image of a table, and answers its length in bytes. */
+size_t make_table(const struct table *table, uint8_t image[MOST_BYTES])
+{
+    static struct records records;
+    records.count = 0;
+    add_records(&records, table, 0);
+    return make_image("TB", &records, image);
+}
+
 /* Writes from now on only the first input of each class. */
 void write_only_first(void)
 {
@@ -110,13 +119,10 @@ static bool is_left_out(const char *class)
 /* Writes a table with a map that is lent for its bounds; without one its own map is lent. */
 void write_table_case(const char *class, const struct table *table, const uint64_t *rows)
 {
-    static struct records records;
     static uint8_t image[MOST_BYTES];
     if (is_left_out(class))
         return;
-    records.count = 0;
-    add_records(&records, table, 0);
-    size_t bytes = make_image("TB", &records, image);
+    size_t bytes = make_table(table, image);
     printf("T %zu %d %s\n", bytes, rows == NULL ? 0 : 512, class);
     fwrite(image, 1, bytes, stdout);
     for (size_t i = 0; rows != NULL && i < 64; i++) {
@@ -133,9 +139,7 @@ void write_patch_case(const char *class, const struct table *base, const struct 
     static uint8_t table[MOST_BYTES], patch[MOST_BYTES];
     if (is_left_out(class))
         return;
-    records.count = 0;
-    add_records(&records, base, 0);
-    size_t table_bytes = make_image("TB", &records, table);
+    size_t table_bytes = make_table(base, table);
     records.count = 0;
     add_records(&records, out, 0);
     add_records(&records, in, 1);

@@ -66,13 +66,13 @@ void lend_own_map(struct input *input)
     memcpy(input->map, answer.rows, sizeof input->map);
 }
 
-/* The chains that the search opens, or more than are allowed. */
-uint64_t chains_opened(const struct input *input, uint64_t allowed)
+/* The sets that the search visits, or more than are allowed. */
+uint64_t sets_visited(const struct input *input, uint64_t allowed)
 {
     static struct answer answer;
-    *sides[GCC]->chains_opened = 0;
-    *sides[GCC]->chains_allowed = allowed;
+    *sides[GCC]->sets_visited = 0;
+    *sides[GCC]->sets_allowed = allowed;
     call_bounds(sides[GCC], input, &answer);
-    *sides[GCC]->chains_allowed = UINT64_MAX;
-    return *sides[GCC]->chains_opened;
+    *sides[GCC]->sets_allowed = UINT64_MAX;
+    return *sides[GCC]->sets_visited;
 }

@@ -14,7 +14,7 @@ call call_patch_verdict;
 call call_patch;
 
 void lend_own_map(struct input *input);
-uint64_t chains_opened(const struct input *input, uint64_t allowed);
+uint64_t sets_visited(const struct input *input, uint64_t allowed);
 
 enum { VERDICT, MAP, BOUNDS, PATCH_VERDICT, PATCH, CALLS };
 

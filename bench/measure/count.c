@@ -2,8 +2,8 @@
  * instructions of each call from one mark to the next. Says on standard output what it makes, in that order. */
 #include "calls.h"
 
-/* A search that opens more chains than this is left out. */
-enum { MOST_CHAINS = 3000 };
+/* A search that visits more sets than this is left out. */
+enum { MOST_SETS = 3000 };
 
 /* Stands in the trace before and after each call. */
 __attribute__((noinline)) void mark(void)
@@ -35,7 +35,7 @@ static void count_calls(struct input *input)
     }
     count(VERDICT, input);
     count(MAP, input);
-    if (chains_opened(input, MOST_CHAINS) <= MOST_CHAINS)
+    if (sets_visited(input, MOST_SETS) <= MOST_SETS)
         count(BOUNDS, input);
 }
 

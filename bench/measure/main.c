@@ -6,8 +6,8 @@
 #include "report.h"
 #include "timing.h"
 
-/* A search that opens more chains than this is left out, and so is one past what is opened in its class. */
-enum { CHAINS_OF_INPUT = 600000, CHAINS_OF_CLASS = 1500000, MOST_LEFT_OUT = 2 };
+/* A search that visits more sets than this is left out, and so is one past what is visited in its class. */
+enum { SETS_OF_INPUT = 2000000, SETS_OF_CLASS = 5000000, MOST_LEFT_OUT = 2 };
 
 static struct class classes[MOST_CLASSES];
 static size_t class_count;
@@ -29,7 +29,7 @@ static struct class *class_of(const struct input *input)
     end_unless(class_count < MOST_CLASSES, "too many classes", input);
     fprintf(stderr, "bench: %s\n", input->class);
     strcpy(classes[class_count].name, input->class);
-    classes[class_count].chains_left = CHAINS_OF_CLASS;
+    classes[class_count].sets_left = SETS_OF_CLASS;
     return &classes[class_count++];
 }
 
@@ -63,19 +63,19 @@ static void keep_clique(struct class *class, const struct input *input, uint32_t
     add(&class->clique_ratio, own > 0 ? own / seconds : 0);
 }
 
-/* Times the bounds, unless the search opens too many chains. */
+/* Times the bounds, unless the search visits too many sets. */
 static void keep_bounds(struct class *class, const struct input *input, struct answer *answer)
 {
-    uint64_t allowed = class->chains_left < CHAINS_OF_INPUT ? class->chains_left : CHAINS_OF_INPUT;
+    uint64_t allowed = class->sets_left < SETS_OF_INPUT ? class->sets_left : SETS_OF_INPUT;
     if (class->left_out >= MOST_LEFT_OUT)
         return;
-    uint64_t opened = chains_opened(input, allowed);
-    if (opened > allowed) {
+    uint64_t visited = sets_visited(input, allowed);
+    if (visited > allowed) {
         class->left_out++;
         return;
     }
-    class->chains_left -= opened;
-    add(&class->chains, (double)opened);
+    class->sets_left -= visited;
+    add(&class->sets, (double)visited);
     keep(class, BOUNDS, input, answer);
     keep_clique(class, input, answer->numbers[3]);
 }
@@ -115,6 +115,6 @@ int main(int argc, char **argv)
     fclose(instructions);
     print_calls(classes, class_count);
     printf("\n");
-    print_chains(classes, class_count, CHAINS_OF_INPUT, has_cliquer);
+    print_chains(classes, class_count, SETS_OF_INPUT, has_cliquer);
     return 0;
 }

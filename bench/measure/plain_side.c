@@ -30,5 +30,5 @@ const struct side SIDE = {.name = NAME,
                           .map = map,
                           .bounds = bounds,
                           .patch = patch,
-                          .chains_opened = &plain_chains_opened,
-                          .chains_allowed = &plain_chains_allowed};
+                          .sets_visited = &plain_sets_visited,
+                          .sets_allowed = &plain_sets_allowed};

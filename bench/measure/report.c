@@ -115,22 +115,22 @@ static void print_clique(const struct class *class)
 /* Prints the searches of one class. */
 static void print_chain(const struct class *class, uint64_t limit, bool has_clique)
 {
-    printf("| %s | %zu of %zu ", class->name, class->chains.count, class->tables);
-    if (class->chains.count == 0) {
+    printf("| %s | %zu of %zu ", class->name, class->sets.count, class->tables);
+    if (class->sets.count == 0) {
         printf("| over %llu | - | - | - | - | - |\n", (unsigned long long)limit);
         return;
     }
-    printf("| %.0f | %.0f ", median(&class->chains), worst(&class->chains));
+    printf("| %.0f | %.0f ", median(&class->sets), worst(&class->sets));
     if (has_clique)
         print_clique(class);
     else
         printf("| %.3f | skipped | skipped | skipped |\n", 1e3 * median(&class->chain_seconds));
 }
 
-/* Prints what the searches opened that did not open more chains than the limit, and the chain beside Cliquer's. */
+/* Prints the sets that the searches visited, of those that did not pass the limit, and the chain beside Cliquer's. */
 void print_chains(const struct class *classes, size_t count, uint64_t limit, bool has_clique)
 {
-    printf("| Inputs | Searches timed | Chains opened: median | worst | Chain, ms | Cliquer, ms "
+    printf("| Inputs | Searches timed | Sets visited: median | worst | Chain, ms | Cliquer, ms "
            "| Library by Cliquer: median | worst |\n");
     printf("|---|---|---|---|---|---|---|---|\n");
     for (size_t c = 0; c < count; c++)

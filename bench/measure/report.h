@@ -13,14 +13,14 @@ struct figures {
 };
 
 /* The figures of a class: seconds of each call on each side and the library's by each other's, the instructions on its first
- * input where they were counted, chains opened, and the chain beside Cliquer's. */
+ * input where they were counted, sets visited, and the chain beside Cliquer's. */
 struct class {
     char name[MOST_CLASS_BYTES];
     size_t tables, left_out, cliques_left_out;
-    uint64_t chains_left;
+    uint64_t sets_left;
     struct figures seconds[CALLS][MOST_SIDES], ratio[CALLS][MOST_SIDES];
     double instructions[CALLS][MOST_SIDES];
-    struct figures chains, chain_seconds, clique_seconds, clique_ratio;
+    struct figures sets, chain_seconds, clique_seconds, clique_ratio;
 };
 
 void add(struct figures *figures, double figure);

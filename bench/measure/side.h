@@ -18,13 +18,13 @@ struct image {
     size_t length;
 };
 
-/* The calls of one side. The plain rendering also counts the chains that its search opens, and ends a search past a limit. */
+/* The calls of one side. The plain rendering also counts the sets that its ceilings visit, and ends a search past a limit. */
 struct side {
     const char *name;
     void (*map)(struct image image, size_t row_count, struct answer *answer);
     void (*bounds)(struct image image, const uint64_t *map, struct answer *answer);
     void (*patch)(struct image base, struct image patch, const uint64_t *map, struct answer *answer);
-    uint64_t *chains_opened, *chains_allowed;
+    uint64_t *sets_visited, *sets_allowed;
 };
 
 enum { LIBRARY, GCC, CLANG, MOST_SIDES };

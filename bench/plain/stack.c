@@ -1,32 +1,4 @@
-/* The bound call: Algorithm 1 with the path bound for the chain, and the path, transactions and levels bounds. */
-
-uint64_t plain_chains_opened, plain_chains_allowed = UINT64_MAX;
-
-/* The rows of the relation, the places by falling priority, and the sizes by places. */
-struct setting {
-    uint64_t rows[64];
-    uint8_t order[64];
-    const uint32_t *sizes;
-};
-
-/* The chain that is open, by its places, and the heaviest found so far. */
-struct chains {
-    uint8_t open[64], best[64];
-    size_t best_length;
-    uint32_t best_weight;
-};
-
-/* The lowest place of a set that is not empty. */
-static size_t lowest(uint64_t set)
-{
-    return (size_t)__builtin_ctzll(set);
-}
-
-/* The places below count. */
-static uint64_t all_below(size_t count)
-{
-    return count == 64 ? UINT64_MAX : ((uint64_t)1 << count) - 1;
-}
+/* The bound call: the chain, and the path, transactions and levels bounds. */
 
 /* Keeps only those set cells that count: both places hold tasks, and the first has lower priority. */
 static void relate_rows(const uint32_t *priorities, const uint64_t *map, size_t count, uint64_t rows[64])
@@ -37,19 +9,6 @@ static void relate_rows(const uint32_t *priorities, const uint64_t *map, size_t 
             if (priorities[i] < priorities[j])
                 higher += (uint64_t)1 << j;
         rows[i] = higher & map[i];
-    }
-}
-
-/* Puts the places below count in order of falling priority, each behind all whose priority is no lower. */
-static void order_by_falling_priority(const uint32_t *priorities, size_t count, uint8_t order[64])
-{
-    for (size_t place = 0; place < count; place++) {
-        size_t at = 0;
-        while (at < place && priorities[order[at]] >= priorities[place])
-            at++;
-        for (size_t k = place; k > at; k--)
-            order[k] = order[k - 1];
-        order[at] = (uint8_t)place;
     }
 }
 
@@ -79,27 +38,6 @@ static uint32_t path_bound(const struct setting *setting, uint64_t cover)
         }
     }
     return largest_at(sums, cover);
-}
-
-/* Meets the open chain and all that lengthen it, in rising order of places, and keeps the first heaviest. */
-static void search(const struct setting *setting, struct chains *chains, size_t length, uint32_t weight, uint64_t cover)
-{
-    if (plain_chains_opened++ >= plain_chains_allowed)
-        return;
-    if (chains->best_weight < weight) {
-        memcpy(chains->best, chains->open, length);
-        chains->best_length = length;
-        chains->best_weight = weight;
-    }
-    if (path_bound(setting, cover) <= chains->best_weight - weight)
-        return;
-    uint64_t rest = cover;
-    while (rest != 0) {
-        size_t place = lowest(rest);
-        rest -= (uint64_t)1 << place;
-        chains->open[length] = (uint8_t)place;
-        search(setting, chains, length + 1, weight + setting->sizes[place], cover & setting->rows[place]);
-    }
 }
 
 /* For each transaction the path bound of the tasks with its number, added up. */
@@ -135,12 +73,12 @@ static struct plain_bounds find(const uint8_t *image, const struct sizes *sizes,
 {
     struct tasks tasks;
     struct setting setting;
-    struct chains chains = {.best_length = 0, .best_weight = 0};
+    struct chains chains;
     read_tasks(image, sizes, &tasks);
     setting.sizes = tasks.sizes;
     relate_rows(tasks.priorities, map, tasks.count, setting.rows);
-    order_by_falling_priority(tasks.priorities, tasks.count, setting.order);
-    search(&setting, &chains, 0, 0, all_below(tasks.count));
+    order_by_falling(tasks.priorities, tasks.count, setting.order);
+    find_heaviest(&setting, tasks.count, &chains);
     uint32_t path = path_bound(&setting, all_below(tasks.count));
     uint64_t transactions = transaction_bound(image, sizes->transactions, &tasks, &setting);
     uint32_t levels = level_bound(&tasks);
