@@ -30,7 +30,7 @@ loop-holds c =
 
 record-at-requires : tie.Need-record-at-requires Inv-loop μ-loop
 record-at-requires c κs =
-    record-whole (c .before .before .before .before .before .before .before .before .args .image .now) (c .before .before .before .before .before .before .before .shared-slice-known .given) (c .before .before .before .before .before .before .before .before .pre .0) (c .before .loop .t) (omega (arith, c .before .before .count-kind .ensures .0, c .loop-test .taken))
+    omega (arith, record-whole (c .before .before .before .before .before .before .before .before .args .image .now) (c .before .before .before .before .before .before .before .shared-slice-known .given) (c .before .before .before .before .before .before .before .before .pre .0) (c .before .loop .t) (omega (arith, c .before .before .count-kind .ensures .0, c .loop-test .taken)))
 
 two-bytes-requires : tie.Need-two-bytes-requires Inv-loop μ-loop
 two-bytes-requires c κs = search needs
