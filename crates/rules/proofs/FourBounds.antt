@@ -1,24 +1,30 @@
--- The four bounds: how the answer of a bound call is ordered, for every image and every map.
+-- The four bounds: how the answer of a bound call is ordered, for every image and every map, and what none of them passes.
 use Prim.Native.Nat.{ℕ, _≤_, _<_}
-use mathlib.Core.List.{List}
-use mathlib.Core.Bool.{true, _||_}
+use mathlib.Core.List.{List, []}
+use mathlib.Core.Bool.{Bool, true, _||_}
 use mathlib.Core.Path.{_≡_}
 use native.Mathlib.Omega.{arith}
-use lib.ListN.{length}
+use lib.ListN.{length, getD}
 use lib.Dec.{ltb}
 use Rattle.rules.specs.declared.Verdict.{Verdict}
 use Rattle.rules.specs.declared.Bounds.{Bounds}
+use Rattle.rules.specs.Numbers.{Bytes, sumTo}
 use Rattle.rules.specs.Blocks.{records}
-use Rattle.rules.specs.Records.{taskCount, taskAt, transactions, listed}
-use Rattle.rules.specs.Chains.{related, sizeAt, Figures, FiguresOf}
+use Rattle.rules.specs.Records.{taskCount, taskAt, tasks, transactions, listed}
+use Rattle.rules.specs.Chains.{related, sizeAt, priorityAt, Figures, FiguresOf}
 use Rattle.rules.specs.Refusals.{accepted, tableVerdict, shortRefusal}
 use Rattle.rules.specs.Calls.{boundVerdict, passesAny, boundRefusal, boundsFound, BoundCall, BoundsWorkedOut}
 use Rattle.rules.proofs.Refusals.{accepted-both}
-use Rattle.rules.proofs.Numbers.{either}
-use Rattle.rules.proofs.FourBounds.Order.{chain≤path, path≤levels, chain≤transactions}
+use Rattle.rules.proofs.Numbers.{either, sumTo-light}
+use Rattle.rules.proofs.Table.Ranges.{le2-small}
+use Rattle.rules.proofs.Table.Shape.{Shape, ofKind-bytes}
+use Rattle.rules.proofs.Table.Listed.{table-of}
+use Rattle.rules.proofs.FourBounds.Order.{chain≤path, path≤levels, chain≤transactions, related-rises}
+use Rattle.rules.proofs.FourBounds.Total.{path≤total, transactions≤total, levels≤total}
 use Rattle.rules.proofs.FourBounds.Accepted.{accepted-listed}
 pub mod Order
 pub mod Accepted
+pub mod Total
 pub mod Unique
 
 -- chain <= path <= levels, and chain <= transactions
@@ -57,3 +63,41 @@ bounds-ordered image rows ids answer later call =
         either (passesAny (records image) (out .figures))
         (λ t. rw (out .passed t .0) (refused-ordered (record { number = 12; place = 0 })))
         (λ t. rw (out .found t .0) (figures-ordered (records image) rows (out .figures) (accepted-listed image table) (out .right)))
+
+-- 64 tasks of at most 65,535 bytes weigh at most 4,194,240
+abbrev pub WithinLimits : Bounds → Type 0
+WithinLimits answer =
+    (answer .chain ≤ 4194240) × (answer .path ≤ 4194240) × (answer .transactions ≤ 4194240) × (answer .levels ≤ 4194240)
+
+-- of every accepted table and every lent map, no bound is above that
+pub bounds-within : (image rows : List ℕ) (f : Figures) → Bytes image → accepted (tableVerdict image) ≡ true
+    → FiguresOf (records image) rows f → WithinLimits (boundsFound (records image) f)
+bounds-within image rows f bytes table right =
+    let (c, path, heavy) = right .path .reached in
+    let longest = path≤total n R (sizeAt rs) (priorityAt rs) (λ i j h k. related-rises rs rows i j) c path in
+    let most : f .path ≤ 4194240 = omega (arith, total, heavy, longest) in (
+      omega (arith, most, chain≤path n R (sizeAt rs) (f .path) (f .chain) (right .path) (right .chain .chain)),
+      most,
+      omega (arith, total, transactions≤total rs rows (f .transactions) (shape .transactions-rise) (right .transactions)),
+      omega (arith, total, right .levels, levels≤total rs),
+    )
+  where
+    rs : List (List ℕ)
+    rs = records image
+
+    n : ℕ
+    n = taskCount rs
+
+    R : ℕ → ℕ → Bool
+    R = related rs rows
+
+    shape : Shape rs
+    shape = table-of image bytes table .0
+
+    total : sumTo (sizeAt rs) n ≤ 4194240
+    total =
+        omega (
+          arith,
+          shape .few-tasks,
+          sumTo-light (sizeAt rs) n (λ i h. omega (arith, le2-small (getD (tasks rs) i []) (ofKind-bytes image bytes 2 i) 20)),
+        )

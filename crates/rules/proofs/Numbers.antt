@@ -1,5 +1,5 @@
 -- Laws of what is asked of the numbers from 0 up to n.
-use Prim.Native.Nat.{ℕ, zero, suc, _+_, _≤_, _<_, max}
+use Prim.Native.Nat.{ℕ, zero, suc, _+_, _*_, _≤_, _<_, max}
 use mathlib.Core.List.{List, [], _∷_, _++_}
 use mathlib.Core.Bool.{Bool, true, false, cond, _||_}
 use mathlib.Core.Path.{_≡_, refl, _∙_}
@@ -240,3 +240,39 @@ sumTo-more f g (suc n) k x all h more =
     (λ t.
     let e : n ≡ k = omega (arith, ltb-false k n t) in
     rw e (omega (arith, sumTo-least f g k (λ i l. all i))))
+
+-- numbers that are all 0 add up to 0
+pub sumTo-none : (f : ℕ → ℕ) (n : ℕ) → ((t : ℕ) → t < n → f t ≡ 0) → sumTo f n ≡ 0
+unfolding sumTo
+sumTo-none f zero none = refl
+sumTo-none f (suc n) none = omega (arith, none n (omega arith), sumTo-none f n (λ t h. none t (omega arith)))
+
+-- numbers that are at most 65,535 each
+pub sumTo-light : (f : ℕ → ℕ) (n : ℕ) → ((t : ℕ) → t < n → f t ≤ 65535) → sumTo f n ≤ 65535 * n
+unfolding sumTo
+sumTo-light f zero light = omega arith
+sumTo-light f (suc n) light = omega (arith, light n (omega arith), sumTo-light f n (λ t h. light t (omega arith)))
+
+-- the largest is one of those added up
+pub largestTo-sum : (f : ℕ → ℕ) (n : ℕ) → largestTo f n ≤ sumTo f n
+unfolding sumTo largestTo
+largestTo-sum f zero = omega arith
+largestTo-sum f (suc n) = omega (arith, largestTo-sum f n)
+
+-- two sums are one
+pub sumTo-both : (f g : ℕ → ℕ) (n : ℕ) → sumTo (λ t. f t + g t) n ≡ sumTo f n + sumTo g n
+unfolding sumTo
+sumTo-both f g zero = refl
+sumTo-both f g (suc n) = omega (arith, sumTo-both f g n)
+
+-- what counts for at most one of the numbers counts at most once
+pub sumTo-once : (test : ℕ → Bool) (x n : ℕ) → ((t u : ℕ) → t < n → u < n → test t ≡ true → test u ≡ true → t ≡ u)
+    → sumTo (λ t. cond (test t) x 0) n ≤ x
+unfolding sumTo
+sumTo-once test x zero one = omega arith
+sumTo-once test x (suc n) one =
+    either (test n)
+    (λ here.
+    let others : (t : ℕ) → t < n → cond (test t) x 0 ≡ 0 = λ t h. either (test t) (λ there. absurd (omega (arith, one t n (omega arith) (omega arith) there here))) (λ not-there. rw not-there) in
+    rw here (omega (arith, sumTo-none (λ t. cond (test t) x 0) n others)))
+    (λ not-here. rw not-here (omega (arith, sumTo-once test x n (λ t u h k. one t u (omega arith) (omega arith)))))

@@ -1,5 +1,5 @@
 -- Laws of the largest size at each priority: priorities above the largest in use add nothing to the sum.
-use Prim.Native.Nat.{ℕ, zero, suc, _+_, _*_, _≤_, _<_, max}
+use Prim.Native.Nat.{ℕ, zero, suc, _+_, _≤_, _<_, max}
 use mathlib.Core.List.{List}
 use mathlib.Core.Bool.{true, false}
 use mathlib.Core.Path.{_≡_, sym, _∙_}
@@ -17,12 +17,6 @@ pub largestTo-light : (f : ℕ → ℕ) (n most : ℕ) → ((i : ℕ) → i < n 
 unfolding largestTo
 largestTo-light f zero most h = omega arith
 largestTo-light f (suc n) most h = omega (arith, largestTo-light f n most (λ i l. h i (omega arith)), h n (omega arith))
-
--- the sum of numbers that are at most 65535 each
-pub sumTo-light : (f : ℕ → ℕ) (n : ℕ) → ((i : ℕ) → f i ≤ 65535) → sumTo f n ≤ 65535 * n
-unfolding sumTo
-sumTo-light f zero h = omega arith
-sumTo-light f (suc n) h = omega (arith, sumTo-light f n h, h n)
 
 -- numbers that are 0 add nothing
 pub sumTo-rest : (f : ℕ → ℕ) (m n : ℕ) → m ≤ n → ((i : ℕ) → m ≤ i → f i ≡ 0) → sumTo f n ≡ sumTo f m
@@ -50,15 +44,6 @@ module _ {count : ℕ} {priorities sizes : List ℕ} (sized : Sized count priori
       either (eqb (getD priorities i 0) p)
       (λ t. rw t (sized .size-most i below))
       (λ t. rw t (omega arith)))
-
-  -- the sum of the levels fits
-  pub levels-most : levelsOf priorities sizes count ≤ 256 * 65535
-  levels-most =
-      omega (
-        arith,
-        priorities-light,
-        sumTo-light (levelIn priorities sizes count) (largestTo (λ i. getD priorities i 0) count + 1) level-light,
-      )
 
   -- a level above the largest priority in use is 0
   level-unused : (p : ℕ) → largestTo (λ i. getD priorities i 0) count + 1 ≤ p → levelIn priorities sizes count p ≡ 0

@@ -1,10 +1,10 @@
 -- Table order: what a rising key says of kinds and numbers.
 use Prim.Native.Nat.{ℕ, zero, suc, _-_, _≤_, _<_}
 use mathlib.Core.List.{List, [], _∷_}
-use mathlib.Core.Bool.{false, cond}
-use mathlib.Core.Path.{_≡_}
+use mathlib.Core.Bool.{true, false, cond}
+use mathlib.Core.Path.{_≡_, sym, _∙_}
 use native.Mathlib.Omega.{arith}
-use borrow.Author.Tests.{ne-eqb, lt-ltb, ltb-true, ltb-false, leb-false}
+use borrow.Author.Tests.{eqb-true, ne-eqb, lt-ltb, ltb-true, ltb-false, leb-false}
 use lib.ListN.{length, getD}
 use lib.Dec.{eqb, ltb}
 use Rattle.rules.specs.Numbers.{Bytes}
@@ -30,6 +30,24 @@ rises-of-next f rs next i (suc j) below l =
     (λ t.
     let e : i ≡ j = omega (arith, ltb-false i j t) in
     rw e step)
+
+-- what rises is different in any two records
+pub rises-apart : (f : List ℕ → ℕ) (rs : List (List ℕ)) → Rises f rs → (i j : ℕ) → i < length rs → j < length rs
+    → f (getD rs i []) ≡ f (getD rs j []) → i ≡ j
+rises-apart f rs rises i j li lj same =
+    either (ltb i j)
+    (λ t. absurd (omega (arith, rises i j (ltb-true i j t) lj)))
+    (λ t.
+    either (ltb j i)
+    (λ u. absurd (omega (arith, rises j i (ltb-true j i u) li)))
+    (λ u. omega (arith, ltb-false i j t, ltb-false j i u)))
+
+-- so where the numbers rise, at most one record has a number
+pub one-with : (rs : List (List ℕ)) → Rises numberOf rs → (x i j : ℕ) → i < length rs → j < length rs
+    → eqb x (numberOf (getD rs i [])) ≡ true → eqb x (numberOf (getD rs j [])) ≡ true → i ≡ j
+one-with rs rises x i j li lj here there =
+    rises-apart numberOf rs rises i j li lj
+    (sym (eqb-true x (numberOf (getD rs i [])) here) ∙ eqb-true x (numberOf (getD rs j [])) there)
 
 -- a record that is not found out of order comes after the one before it
 pub order-right : (rs : List (List ℕ)) (k : ℕ) → orderWrong rs k ≡ false → 0 < k

@@ -2,9 +2,9 @@
 use Prim.Native.Nat.{_-_, _≤_}
 use mathlib.Core.Path.{_≡_, sym, _∙_}
 use Rattle.rules.specs.Numbers.{sumTo}
-use Rattle.rules.proofs.Numbers.{sumTo-zero, sumTo-step}
+use Rattle.rules.proofs.Numbers.{sumTo-zero, sumTo-step, sumTo-light}
 use Rattle.stack.specs.Levels.{levelIn}
-use Rattle.stack.proofs.Levelling.{sumTo-light, level-light, levels-all}
+use Rattle.stack.proofs.Levelling.{level-light, levels-all}
 use native.Mathlib.Omega.{arith}
 use borrow.Author.Needs.{needs}
 use Rattle.stack.proofs.levels.level_bound.Statement.{statement}
@@ -38,7 +38,7 @@ add-sum c =
       c .before .loop .inv .1,
       c .before .before .largest-sizes .ensures .levels (c .before .loop .priority),
       level-light (start .pre) (c .before .loop .priority),
-      sumTo-light (levelIn (start .args .priorities .now) (start .args .sizes .now) (start .args .count)) (c .before .loop .priority) (level-light (start .pre)),
+      sumTo-light (levelIn (start .args .priorities .now) (start .args .sizes .now) (start .args .count)) (c .before .loop .priority) (λ p h. level-light (start .pre) p),
     )
 
 add-priority : tie.Need-add-priority Inv-loop μ-loop
