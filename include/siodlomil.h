@@ -32,7 +32,6 @@
  *    9      a record to take out is not in the base, byte for byte                  patch record
  *   10      the outcome of a patch breaks order, 7 or 8                             0
  *   11      a lent map or room is too short                                         0
- *   12      a bound passes 4,294,967,295                                            0
  *   21-27   1 to 7 for a patch: 23,040 bytes at most (21); byte 31 of a record
  *           neither 0 nor 1 (24); too many taken out, or too many put in (27)       as for 1 to 7
  */
@@ -105,7 +104,7 @@ typedef struct siodlomil_offending_answer {
 siodlomil_map_answer siodlomil_map(const uint8_t *image, size_t image_bytes, uint64_t *map, size_t map_rows);
 
 /*
- * Finds the four bounds of a table image, and the chain that reaches the first: refusals 1 to 8, then 11, then 12.
+ * Finds the four bounds of a table image, and the chain that reaches the first: refusals 1 to 8, then 11.
  *
  * image  read: the table image.
  * map    read: at least 64 rows, of any contents. A set bit counts only where both places hold tasks and the first has
@@ -113,7 +112,8 @@ siodlomil_map_answer siodlomil_map(const uint8_t *image, size_t image_bytes, uin
  * ids    written: at least 64 entries. The heaviest chain by its tasks' ids, lowest priority first; of chains that weigh
  *        the same the first, compared id by id. Entries beyond the answered length keep their values.
  *
- * Always chain <= path <= levels, and chain <= transactions. A table without tasks has 0 for each, and no ids.
+ * Always chain <= path <= levels, and chain <= transactions; none is above 4,194,240, which is 64 tasks of 65,535 bytes. A
+ * table without tasks has 0 for each, and no ids.
  */
 siodlomil_bounds_answer siodlomil_bounds(const uint8_t *image, size_t image_bytes, const uint64_t *map, size_t map_rows,
                                          uint16_t *ids, size_t ids_entries);

@@ -41,10 +41,10 @@ static uint32_t path_bound(const struct setting *setting, uint64_t cover)
 }
 
 /* For each transaction the path bound of the tasks with its number, added up. */
-static uint64_t transaction_bound(const uint8_t *image, size_t transactions, const struct tasks *tasks,
+static uint32_t transaction_bound(const uint8_t *image, size_t transactions, const struct tasks *tasks,
                                   const struct setting *setting)
 {
-    uint64_t total = 0;
+    uint32_t total = 0;
     for (size_t t = 0; t < transactions; t++) {
         uint32_t number = two_bytes(record_at(image, t) + 2);
         uint64_t own = 0;
@@ -68,7 +68,7 @@ static uint32_t level_bound(const struct tasks *tasks)
     return sum;
 }
 
-/* The answer of an accepted call, with the chain's ids written to the room; refusal 12 where a bound passes 32 bits. */
+/* The answer of an accepted call, with the chain's ids written to the room. */
 static struct plain_bounds find(const uint8_t *image, const struct sizes *sizes, const uint64_t *map, uint16_t *ids)
 {
     struct tasks tasks;
@@ -80,14 +80,12 @@ static struct plain_bounds find(const uint8_t *image, const struct sizes *sizes,
     order_by_falling(tasks.priorities, tasks.count, setting.order);
     find_heaviest(&setting, tasks.count, &chains);
     uint32_t path = path_bound(&setting, all_below(tasks.count));
-    uint64_t transactions = transaction_bound(image, sizes->transactions, &tasks, &setting);
+    uint32_t transactions = transaction_bound(image, sizes->transactions, &tasks, &setting);
     uint32_t levels = level_bound(&tasks);
-    if (transactions > 4294967295)
-        return (struct plain_bounds){.number = 12};
     for (size_t k = 0; k < chains.best_length; k++)
         ids[k] = (uint16_t)tasks.ids[chains.best[k]];
     return (struct plain_bounds){.tasks = (uint32_t)tasks.count, .chain = chains.best_weight, .path = path,
-                                 .transactions = (uint32_t)transactions, .levels = levels,
+                                 .transactions = transactions, .levels = levels,
                                  .length = (uint32_t)chains.best_length};
 }
 

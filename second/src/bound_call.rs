@@ -4,7 +4,7 @@ use crate::bounds::{levels, Relation};
 use crate::chain::heaviest_chain;
 use crate::preempt::MAP_ROWS;
 use crate::table::Table;
-use crate::verdict::{records_of_table, Refusal, BOUND_TOO_LARGE, TOO_SHORT};
+use crate::verdict::{records_of_table, Refusal, TOO_SHORT};
 
 /// Entries that the room for ids must have.
 pub const ID_ENTRIES: usize = 64;
@@ -37,23 +37,8 @@ pub fn bound_call(image: &[u8], map: &[u64], ids: &mut [u16]) -> Result<Bounds, 
         levels: levels(&table.tasks),
         length: chain.len(),
     };
-    refuse_large(&bounds)?;
     for (entry, place) in ids.iter_mut().zip(&chain) {
         *entry = table.tasks[*place].id;
     }
     Ok(bounds)
-}
-
-/// Refuses 12 when a bound passes 4,294,967,295.
-fn refuse_large(bounds: &Bounds) -> Result<(), Refusal> {
-    let all = [
-        bounds.chain,
-        bounds.path,
-        bounds.transactions,
-        bounds.levels,
-    ];
-    match all.iter().any(|bound| *bound > u64::from(u32::MAX)) {
-        true => Err(BOUND_TOO_LARGE),
-        false => Ok(()),
-    }
 }

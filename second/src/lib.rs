@@ -15,6 +15,7 @@ pub mod chain;
 pub mod digest;
 pub mod figure2;
 pub mod generate;
+pub mod heaviest;
 pub mod map_call;
 pub mod numbered_cases;
 pub mod patch_call;

@@ -9,14 +9,16 @@ use second::answer::answer;
 use second::blocks::{image_of, Form, BLOCK_BYTES};
 use second::figure2::figure2;
 use second::generate::{write_stream, Wanted};
+use second::heaviest::heaviest;
 use second::numbered_cases::{patch_of, runs_of};
 use second::report::report;
 use second::sorts::Sorts;
 use second::stream::Case;
+use second::table::Table;
 
 const USAGE: &str =
     "usage: second bounds | generate SEED LETTERS COUNT | answer | sorts | figure2 \
-                     | patch NUMBER | case NUMBER \
+                     | heaviest | patch NUMBER | case NUMBER \
                      (LETTERS are some of T, P, M, B, A, R and L; NUMBER is 11, 12 or 13)";
 
 /// What the command line asks for.
@@ -29,7 +31,7 @@ enum Command {
     },
     Answer,
     Sorts,
-    Figure2,
+    Table(Table),
     Patch(Vec<u8>),
     Runs(Vec<Case>),
 }
@@ -56,7 +58,8 @@ fn command_from(words: &[&str]) -> Option<Command> {
         ["bounds"] => Some(Command::Bounds),
         ["answer"] => Some(Command::Answer),
         ["sorts"] => Some(Command::Sorts),
-        ["figure2"] => Some(Command::Figure2),
+        ["figure2"] => Some(Command::Table(figure2())),
+        ["heaviest"] => Some(Command::Table(heaviest())),
         ["patch", number] => patch_of(number.parse().ok()?).map(Command::Patch),
         ["case", number] => runs_of(number.parse().ok()?).map(Command::Runs),
         ["generate", seed, letters, count] => Some(Command::Generate {
@@ -86,7 +89,7 @@ fn run(command: Command) -> io::Result<()> {
         } => write_stream(seed, &wanted, count, &mut output)?,
         Command::Answer => answer_all(&mut input, &mut output)?,
         Command::Sorts => output.write_all(sorts_in(&mut input)?.lines().as_bytes())?,
-        Command::Figure2 => output.write_all(&image_of(Form::Table, &figure2().records()))?,
+        Command::Table(table) => output.write_all(&image_of(Form::Table, &table.records()))?,
         Command::Patch(patch) => output.write_all(&patch)?,
         Command::Runs(runs) => runs.iter().try_for_each(|run| run.write(&mut output))?,
     }

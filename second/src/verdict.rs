@@ -16,8 +16,6 @@ pub struct Refusal {
 pub const BAD_OUTCOME: Refusal = Refusal::new(10, 0);
 /// A refusal at place 0: a lent map or room is too short.
 pub const TOO_SHORT: Refusal = Refusal::new(11, 0);
-/// A refusal at place 0: a bound passes 4,294,967,295.
-pub const BOUND_TOO_LARGE: Refusal = Refusal::new(12, 0);
 
 impl Refusal {
     /// The refusal of this number at this place.

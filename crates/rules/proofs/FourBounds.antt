@@ -13,7 +13,7 @@ use Rattle.rules.specs.Blocks.{records}
 use Rattle.rules.specs.Records.{taskCount, taskAt, tasks, transactions, listed}
 use Rattle.rules.specs.Chains.{related, sizeAt, priorityAt, Figures, FiguresOf}
 use Rattle.rules.specs.Refusals.{accepted, tableVerdict, shortRefusal}
-use Rattle.rules.specs.Calls.{boundVerdict, passesAny, boundRefusal, boundsFound, BoundCall, BoundsWorkedOut}
+use Rattle.rules.specs.Calls.{boundVerdict, boundRefusal, boundsFound, BoundCall, BoundsWorkedOut}
 use Rattle.rules.proofs.Refusals.{accepted-both}
 use Rattle.rules.proofs.Numbers.{either, sumTo-light}
 use Rattle.rules.proofs.Table.Ranges.{le2-small}
@@ -60,9 +60,7 @@ bounds-ordered image rows ids answer later call =
 
     worked : accepted (tableVerdict image) ≡ true → BoundsWorkedOut (records image) rows ids answer later → Ordered answer
     worked table out =
-        either (passesAny (records image) (out .figures))
-        (λ t. rw (out .passed t .0) (refused-ordered (record { number = 12; place = 0 })))
-        (λ t. rw (out .found t .0) (figures-ordered (records image) rows (out .figures) (accepted-listed image table) (out .right)))
+        rw (out .found .0) (figures-ordered (records image) rows (out .figures) (accepted-listed image table) (out .right))
 
 -- 64 tasks of at most 65,535 bytes weigh at most 4,194,240
 abbrev pub WithinLimits : Bounds → Type 0

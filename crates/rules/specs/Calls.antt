@@ -1,7 +1,7 @@
 -- What each call returns, and what each lent buffer holds afterwards, for every input.
 use Prim.Native.Nat.{ℕ, _*_}
 use mathlib.Core.List.{List, [], _++_}
-use mathlib.Core.Bool.{Bool, true, false, cond, _||_}
+use mathlib.Core.Bool.{true, false, cond, _||_}
 use mathlib.Core.Path.{_≡_}
 use lib.ListN.{length, drop}
 use lib.Dec.{ltb, eqb}
@@ -14,7 +14,7 @@ use Rattle.rules.specs.Records.{taskCount}
 use Rattle.rules.specs.Preempt.{mapOf}
 use Rattle.rules.specs.Chains.{Figures, FiguresOf, chainBound, chainIds}
 use Rattle.rules.specs.Patches.{outcome, touchedCount, patchedMap}
-use Rattle.rules.specs.Refusals.{accepted, orElse, tableVerdict, patchVerdict, absentRefusal, outcomeRefusal, shortRefusal, passes}
+use Rattle.rules.specs.Refusals.{accepted, orElse, tableVerdict, patchVerdict, absentRefusal, outcomeRefusal, shortRefusal}
 
 -- a buffer with these values written over its start; what lies beyond them keeps its values
 abbrev pub over : List ℕ → List ℕ → List ℕ
@@ -31,14 +31,10 @@ mapVerdict image rows = orElse (tableVerdict image) (shortRefusal (ltb (length r
 unfoldable pub mapAfter : List ℕ → List ℕ → List ℕ
 mapAfter image rows = after (mapVerdict image rows) (mapOf (records image)) rows
 
--- bound calls answer 1-8, 11, 12; up to 11 the verdict does not ask the bounds
+-- bound calls answer 1-8, 11
 unfoldable pub boundVerdict : List ℕ → List ℕ → List ℕ → Verdict
 boundVerdict image rows ids =
     orElse (tableVerdict image) (shortRefusal (ltb (length rows) 64 || ltb (length ids) 64))
-
-abbrev pub passesAny : List (List ℕ) → Figures → Bool
-passesAny rs f =
-    passes (chainBound rs f) || (passes (f .path) || (passes (f .transactions) || passes (f .levels)))
 
 abbrev pub boundRefusal : Verdict → Bounds
 boundRefusal v =
@@ -70,8 +66,7 @@ boundsFound rs f =
 pub record BoundsWorkedOut (rs : List (List ℕ)) (rows ids : List ℕ) (answer : Bounds) (later : List ℕ) : Type 0 where
   pub figures : Figures
   pub right : FiguresOf rs rows figures
-  pub passed : passesAny rs figures ≡ true → (answer ≡ boundRefusal (record { number = 12; place = 0 })) × (later ≡ ids)
-  pub found : passesAny rs figures ≡ false → (answer ≡ boundsFound rs figures) × (later ≡ over (chainIds rs figures) ids)
+  pub found : (answer ≡ boundsFound rs figures) × (later ≡ over (chainIds rs figures) ids)
 
 -- a bound call: its answer, and the ids afterwards
 pub record BoundCall (image rows ids : List ℕ) (answer : Bounds) (later : List ℕ) : Type 0 where

@@ -111,7 +111,3 @@ outcomeRefusal base patch = refuseIf 10 0 (broken (outcome base patch))
 -- 11: a lent map or room is too short, place 0
 abbrev pub shortRefusal : Bool → Verdict
 shortRefusal short = refuseIf 11 0 short
-
--- 12: a bound passes 4,294,967,295, place 0
-abbrev pub passes : ℕ → Bool
-passes bound = ltb 4294967295 bound

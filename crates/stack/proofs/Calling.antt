@@ -1,4 +1,4 @@
--- The answers of a bound call: refused by the table, by a short map or room, by a bound too large, or found.
+-- The answers of a bound call: refused by the table, by a short map or room, or found.
 use Prim.Native.Nat.{ℕ, _≤_, _<_}
 use mathlib.Core.List.{List, [], _∷_}
 use mathlib.Core.Bool.{true, false, _||_}
@@ -8,13 +8,12 @@ use borrow.Author.Tests.{le-ltb}
 use lib.ListN.{length, getD, take}
 use lib.Seq.{getD-take, length-take-le}
 use lib.Dec.{ltb}
-use Rattle.rules.specs.declared.Bounds.{Bounds}
 use Rattle.rules.specs.declared.Verdict.{Verdict}
 use Rattle.rules.specs.Blocks.{records}
 use Rattle.rules.specs.Records.{taskCount}
 use Rattle.rules.specs.Chains.{chainIds, related}
-use Rattle.rules.specs.Refusals.{accepted, refusal, passes, tableVerdict}
-use Rattle.rules.specs.Calls.{over, BoundCall, boundVerdict, boundRefusal, boundsFound, passesAny}
+use Rattle.rules.specs.Refusals.{accepted, refusal, tableVerdict}
+use Rattle.rules.specs.Calls.{over, BoundCall, boundVerdict, boundRefusal}
 use Rattle.rules.proofs.Numbers.{never}
 use Rattle.stack.specs.declared.call.Found.{Found}
 use Rattle.stack.specs.Figures.{figuresIn, FoundFor}
@@ -44,28 +43,7 @@ module _ (image lent ids : List ℕ) where
     no-fault = rw (yes′, le-ltb (length lent) 64 map-long, le-ltb (length ids) 64 room-long)
 
     -- the figures that were found are those that the answer speaks of
-    worked-out : (answer : Bounds) (later : List ℕ)
-        → (passesAny (records image) (figuresIn found) ≡ true → (answer ≡ boundRefusal (refusal 12 0)) × (later ≡ ids))
-        → (passesAny (records image) (figuresIn found) ≡ false → (answer ≡ boundsFound (records image) (figuresIn found)) × (later ≡ over (chainIds (records image) (figuresIn found)) ids))
-        → BoundCall image lent ids answer later
-    worked-out answer later passed fits =
-        record {
-          refused = λ h. never (accepted (boundVerdict image lent ids)) no-fault h;
-          worked = λ h. record { figures = figuresIn found; right = right .right; passed = passed; found = fits };
-        }
-
-    -- whether a bound is too large is asked of what was found
-    passes-same : (passes (found .chain) || (passes (found .path) || (passes (found .transactions) || passes (found .levels)))) ≡ passesAny (records image) (figuresIn found)
-    passes-same = rw (right .chain)
-
-    pub by-size : (passes (found .chain) || (passes (found .path) || (passes (found .transactions) || passes (found .levels)))) ≡ true
-        → BoundCall image lent ids (boundRefusal (refusal 12 0)) ids
-    by-size large =
-        worked-out (boundRefusal (refusal 12 0)) ids (λ h. (refl, refl))
-        (λ h. never (passesAny (records image) (figuresIn found)) (sym passes-same ∙ large) h)
-
-    pub answered : (later : List ℕ) (count : ℕ) → (passes (found .chain) || (passes (found .path) || (passes (found .transactions) || passes (found .levels)))) ≡ false
-        → count ≡ taskCount (records image) → length (found .places) ≡ 64 → later ≡ over (chainIds (records image) (figuresIn found)) ids
+    pub answered : (later : List ℕ) (count : ℕ) → count ≡ taskCount (records image) → length (found .places) ≡ 64 → later ≡ over (chainIds (records image) (figuresIn found)) ids
         → BoundCall image lent ids
         (record {
           number = 0;
@@ -78,12 +56,12 @@ module _ (image lent ids : List ℕ) where
           length = found .length;
         })
         later
-    answered later count small counted long written =
-        worked-out _ later
-        (λ h. never (passesAny (records image) (figuresIn found)) h (sym passes-same ∙ small))
-        (λ h.
+    answered later count counted long written =
         let size : length (take (found .length) (found .places)) ≡ found .length = length-take-le (found .length) (found .places) (omega (arith, right .room)) in
-        (rw (counted, right .chain, size), written))
+        record {
+          refused = λ h. never (accepted (boundVerdict image lent ids)) no-fault h;
+          worked = λ h. record { figures = figuresIn found; right = right .right; found = (rw (counted, right .chain, size), written) };
+        }
 
     -- every place of the chain is a task's
     pub places-below : (few : taskCount (records image) ≤ 64) (k : ℕ) → length (found .places) ≡ 64 → k < found .length → getD (found .places) k 0 < 64

@@ -1,21 +1,24 @@
 -- The path bounds of each transaction's own tasks, added up one by one.
-use Prim.Native.Nat.{ℕ, _+_, _≤_}
+use Prim.Native.Nat.{ℕ, _+_, _-_, _≤_, _<_}
 use mathlib.Core.List.{List, []}
-use mathlib.Core.Bool.{cond}
+use mathlib.Core.Bool.{Bool, cond}
 use mathlib.Core.Path.{_≡_, refl, sym, ap, _∙_}
 use native.Mathlib.Omega.{arith}
 use borrow.Author.Tests.{lt-ltb, ltb-true, eqb-true, eqb-false, eq-eqb, ne-eqb}
-use lib.ListN.{getD}
-use lib.Dec.{ltb, eqb}
-use Rattle.rules.specs.Numbers.{sumTo}
+use lib.ListN.{length, getD}
+use lib.Dec.{T, ltb, eqb}
+use Rattle.rules.specs.Numbers.{sumTo, lowest}
 use Rattle.rules.specs.Records.{numberOf}
 use Rattle.rules.specs.Preempt.{cell, rowFrom}
 use Rattle.rules.specs.Chains.{weight, Path, All, Largest}
-use Rattle.rules.proofs.Numbers.{either, sumTo-zero, sumTo-step, sumTo-ext}
+use Rattle.rules.proofs.Numbers.{either, lowest-passes, some-true, sumTo-zero, sumTo-step, sumTo-ext, sumTo-light}
 use Rattle.rules.proofs.Tests.{both-first}
 use Rattle.rules.proofs.Maps.{row-at}
+use Rattle.rules.proofs.Table.Order.{Rises, one-with}
+use Rattle.rules.proofs.FourBounds.Total.{own-paths≤total}
 use Rattle.preempt.specs.Bits.{bitAt, numbered}
 use Rattle.preempt.specs.Places.{Inside}
+use Rattle.stack.specs.Setting.{Ready}
 use Rattle.stack.specs.Paths.{sizeIn, PathBound}
 use Rattle.stack.specs.Figures.{ownTask, OwnPaths}
 use Rattle.stack.proofs.Figures.{largest-as}
@@ -61,3 +64,35 @@ module _ (n : ℕ) (rows sizes numbers : List ℕ) (listed : List (List ℕ)) wh
 
       last : r ≡ each t
       last = rw (eq-eqb t t refl)
+
+-- those that may preempt a task stand before it in the order, so that counted from the order's end places rise along a path
+module _ {n : ℕ} {rows sizes order : List ℕ} (ready : Ready n rows sizes order) where
+  -- place k of the order is i's
+  abbrev at : ℕ → ℕ → Bool
+  at i k = eqb (getD order k 0) i
+
+  -- each task has a place there
+  stands : (i : ℕ) → i < n → (lowest (at i) n < n) × (getD order (lowest (at i) n) 0 ≡ i)
+  stands i h =
+      let (k, below, here) = ready .occurs i h in
+      let inside = ltb-true (lowest (at i) n) n (some-true (at i) n k below (eq-eqb (getD order k 0) i here)) in
+      (inside, eqb-true (getD order (lowest (at i) n) 0) i (lowest-passes (at i) n inside))
+
+  rises-from-end : (i j : ℕ) → i < n → j < n → T (cell rows i j) → n - lowest (at i) n < n - lowest (at j) n
+  rises-from-end i j h l may =
+      let (inside, here) = stands i h in
+      let (inside′, here′) = stands j l in
+      omega (arith, ready .earlier (lowest (at i) n) (lowest (at j) n) inside inside′ (rw (here, here′) may))
+
+  -- so that what the listed transactions add up to, passed one by one, is never above what all tasks weigh
+  pub own-within : (numbers : List ℕ) (listed : List (List ℕ)) (m r : ℕ) → Rises numberOf listed → m ≤ length listed
+      → OwnPaths n rows sizes numbers listed m r → r ≤ 4194240
+  own-within numbers listed m r rise few own =
+      omega (
+        arith,
+        ready .few,
+        own .total,
+        own-paths≤total n (cell rows) (sizeIn sizes) (λ i. n - lowest (at i) n) rises-from-end (ownTask numbers listed) m (own .each)
+            (λ i t u h k l. one-with listed rise (getD numbers i 0) t u (omega arith) (omega arith)) (own .bound),
+        sumTo-light (sizeIn sizes) n (ready .light),
+      )

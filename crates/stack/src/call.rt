@@ -1,11 +1,11 @@
 // The bound call: the chain and the four bounds from a table image and a lent map.
 ghost use mathlib.Core.Path.{_≡_};
 ghost use mathlib.Core.List.{map as List·map};
-ghost use mathlib.Core.Bool.{true, _||_};
+ghost use mathlib.Core.Bool.{true};
 ghost use Prim.Native.Nat.{ℕ, _≤_, _<_};
 ghost use lib.ListN.{length, getD, take};
 ghost use Rattle.rules.specs.Blocks.{records};
-ghost use Rattle.rules.specs.Refusals.{accepted, tableVerdict, passes as Refusals·passes, refusal as Refusals·refusal};
+ghost use Rattle.rules.specs.Refusals.{accepted, tableVerdict, refusal as Refusals·refusal};
 ghost use Rattle.rules.specs.Calls.{over, BoundCall, boundRefusal};
 ghost use Rattle.preempt.specs.Tasks.{TasksRead};
 ghost use Rattle.rules.specs.Records.{transactions};
@@ -31,7 +31,7 @@ pub struct Found {
     pub length: usize,
     pub chain: u32,
     pub path: u32,
-    pub transactions: u64,
+    pub transactions: u32,
     pub levels: u32,
 }
 
@@ -98,22 +98,6 @@ fn find(image: &[u8], tasks: Tasks, map: &[u64]) -> Found
     find_over(image, &priorities, &sizes, &numbers, &rows, &order, count)
 }
 
-// Whether one of the bounds passes what an answer can hold.
-fn passes_any(found: Found) -> bool
-    ensures { λ r. ⌜ r ≡ (Refusals·passes (found .chain) || (Refusals·passes (found .path) || (Refusals·passes (found .transactions) || Refusals·passes (found .levels)))) ⌝ }
-{
-    if 4_294_967_295 < found.chain as u64 {
-        return true;
-    }
-    if 4_294_967_295 < found.path as u64 {
-        return true;
-    }
-    if 4_294_967_295 < found.transactions {
-        return true;
-    }
-    4_294_967_295 < found.levels as u64
-}
-
 // Writes the ids of the chain over the start of the room.
 fn write_ids(places: [u8; 64], count: usize, numbers: &[u32], ids: &mut [u16])
     requires { ⌜ (length places ≡ 64) × (count ≤ 64) × (length (now numbers) ≡ 64) × (64 ≤ length (now ids)) ⌝ }
@@ -146,9 +130,6 @@ pub fn find_bounds(image: &[u8], map: &[u64], ids: &mut [u16]) -> Bounds
     }
     let tasks = read_tasks(image);
     let found = find(image, tasks, map);
-    if passes_any(found) {
-        return refused(12, 0);
-    }
     let places = found.places;
     let length = found.length;
     let numbers = tasks.ids;
@@ -159,7 +140,7 @@ pub fn find_bounds(image: &[u8], map: &[u64], ids: &mut [u16]) -> Bounds
         tasks: tasks.count as u32,
         chain: found.chain,
         path: found.path,
-        transactions: found.transactions as u32,
+        transactions: found.transactions,
         levels: found.levels,
         length: length as u32,
     }

@@ -21,20 +21,19 @@ pub fn transaction_bound(
     sizes: &[u32],
     order: &[u8],
     count: usize,
-) -> u64
+) -> u32
     requires { ⌜ accepted (tableVerdict (now image)) ≡ true ⌝ }
     requires { ⌜ Ready count (now rows) (now sizes) (now order) ⌝ }
     requires { ⌜ length (now numbers) ≡ 64 ⌝ }
     ensures { λ r. ⌜ OwnPaths count (now (rows .entry)) (now (sizes .entry)) (now (numbers .entry)) (Records·transactions (records (now (image .entry)))) (length (Records·transactions (records (now (image .entry))))) r ⌝ }
 {
     let transactions = count_kind(image, 1);
-    let mut total: u64 = 0;
+    let mut total: u32 = 0;
     let mut t: usize = 0;
     while t < transactions {
         let number = two_bytes(record_at(image, t), 2);
         let own = members(numbers, count, number);
-        let bound = path_bound(rows, sizes, order, count, own) as u64;
-        total += bound;
+        total += path_bound(rows, sizes, order, count, own);
         t += 1;
     }
     total

@@ -10,7 +10,7 @@ use Rattle.rules.specs.declared.Bounds.{Bounds}
 use Rattle.rules.specs.Blocks.{records}
 use Rattle.rules.specs.Chains.{Figures, FiguresOf, chainIds}
 use Rattle.rules.specs.Refusals.{accepted, tableVerdict, shortRefusal}
-use Rattle.rules.specs.Calls.{over, boundVerdict, passesAny, boundRefusal, boundsFound, BoundCall}
+use Rattle.rules.specs.Calls.{over, boundVerdict, boundRefusal, boundsFound, BoundCall}
 use Rattle.rules.proofs.Refusals.{accepted-both}
 use Rattle.rules.proofs.Numbers.{either, never}
 use Rattle.rules.proofs.Enumerate.{figures, figures-right}
@@ -23,7 +23,7 @@ Answered image rows ids = (answer : Bounds) × (later : List ℕ) × BoundCall i
 -- every bound call has an answer, whatever the image, the map and the room
 pub bound-call-answered : (image rows ids : List ℕ) → Answered image rows ids
 unfolding boundVerdict
-bound-call-answered image rows ids = either (accepted v) (λ t. either (passesAny rs f) (too-large t) (found t)) refused
+bound-call-answered image rows ids = either (accepted v) found refused
   where
     v : Verdict
     v = boundVerdict image rows ids
@@ -42,22 +42,12 @@ bound-call-answered image rows ids = either (accepted v) (λ t. either (passesAn
     refused : accepted v ≡ false → Answered image rows ids
     refused t = (boundRefusal v, ids, record { refused = λ u. (refl, refl); worked = λ u. never (accepted v) u t })
 
-    too-large : accepted v ≡ true → passesAny rs f ≡ true → Answered image rows ids
-    too-large t p = (
-      boundRefusal (record { number = 12; place = 0 }),
-      ids,
-      record {
-        refused = λ u. never (accepted v) t u;
-        worked = λ u. record { figures = f; right = right t; passed = λ q. (refl, refl); found = λ q. never (passesAny rs f) p q };
-      },
-    )
-
-    found : accepted v ≡ true → passesAny rs f ≡ false → Answered image rows ids
-    found t p = (
+    found : accepted v ≡ true → Answered image rows ids
+    found t = (
       boundsFound rs f,
       over (chainIds rs f) ids,
       record {
         refused = λ u. never (accepted v) t u;
-        worked = λ u. record { figures = f; right = right t; passed = λ q. never (passesAny rs f) q p; found = λ q. (refl, refl) };
+        worked = λ u. record { figures = f; right = right t; found = (refl, refl) };
       },
     )

@@ -1,7 +1,7 @@
 -- Each figure, and each answer of a bound call with the ids afterwards, is determined by the table and the map.
 use Prim.Native.Nat.{ℕ, _<_}
 use mathlib.Core.List.{List, List-discrete}
-use mathlib.Core.Bool.{Bool, true, false}
+use mathlib.Core.Bool.{Bool}
 use mathlib.Core.Path.{_≡_, ap, sym, _∙_}
 use native.Mathlib.Decide.{ℕ-discrete}
 use native.Mathlib.Omega.{arith}
@@ -12,7 +12,7 @@ use Rattle.rules.specs.Records.{taskCount, transactions}
 use Rattle.rules.specs.Chains.{weight, Path, All, Before, Largest, Heaviest, related, sizeAt, idAt, inTransaction, TransactionBound, Figures, FiguresOf, chainIds}
 use Rattle.rules.specs.Chains.Before.{less, later}
 use Rattle.rules.specs.Refusals.{accepted}
-use Rattle.rules.specs.Calls.{over, boundVerdict, passesAny, boundsFound, BoundCall, BoundsWorkedOut}
+use Rattle.rules.specs.Calls.{over, boundVerdict, boundsFound, BoundCall, BoundsWorkedOut}
 use Rattle.rules.proofs.Numbers.{either, sumTo-ext}
 
 -- there is one largest value
@@ -71,16 +71,10 @@ figures-unique rs rows f g a b =
 -- the answer and the later ids of figures that are worked out are determined
 worked-determined : (rs : List (List ℕ)) (rows ids : List ℕ) (a b : Bounds) (l m : List ℕ)
     → BoundsWorkedOut rs rows ids a l → BoundsWorkedOut rs rows ids b m → (a ≡ b) × (l ≡ m)
-worked-determined rs rows ids a b l m x y =
-    either (passesAny rs (x .figures))
-    (λ t.
-    let u : passesAny rs (y .figures) ≡ true = rw same at t in
-    (x .passed t .0 ∙ sym (y .passed u .0), x .passed t .1 ∙ sym (y .passed u .1)))
-    (λ t.
-    let u : passesAny rs (y .figures) ≡ false = rw same at t in (
-      x .found t .0 ∙ ap (boundsFound rs) same ∙ sym (y .found u .0),
-      x .found t .1 ∙ ap (λ f. over (chainIds rs f) ids) same ∙ sym (y .found u .1),
-    ))
+worked-determined rs rows ids a b l m x y = (
+  x .found .0 ∙ ap (boundsFound rs) same ∙ sym (y .found .0),
+  x .found .1 ∙ ap (λ f. over (chainIds rs f) ids) same ∙ sym (y .found .1),
+)
   where
     same : x .figures ≡ y .figures
     same = figures-unique rs rows (x .figures) (y .figures) (x .right) (y .right)

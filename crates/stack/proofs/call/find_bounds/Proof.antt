@@ -1,7 +1,4 @@
--- Each way out is one of the four answers of a bound call.
-use borrow.Author.Tests.{ltb-false}
-use Rattle.rules.specs.Refusals.{passes}
-use Rattle.rules.proofs.Tests.{neither-first, neither-second}
+-- Each way out is one of the three answers of a bound call.
 use Rattle.stack.proofs.Readying.{few-read}
 use Prim.Native.Nat.{ℕ}
 use mathlib.Core.List.{map}
@@ -17,7 +14,7 @@ use Rattle.rules.specs.Calls.{over, BoundCall, boundRefusal}
 use Rattle.preempt.proofs.Accepted.{shape}
 use Rattle.stack.proofs.Figures.{ids-same}
 use Rattle.stack.proofs.Readying.{ids-long, ids-small}
-use Rattle.stack.proofs.Calling.{by-table, by-short, by-size, answered, places-below}
+use Rattle.stack.proofs.Calling.{by-table, by-short, answered, places-below}
 use native.Mathlib.Omega.{arith}
 use borrow.Author.Needs.{needs}
 use Rattle.stack.proofs.call.find_bounds.Statement.{statement}
@@ -71,70 +68,48 @@ find-requires c κs =
     let right : accepted (tableVerdict image) ≡ true = subst (λ (v : Verdict). accepted v ≡ true) (c .before .before .before .before .before .table-verdict .ensures) (eq-eqb (c .before .before .before .before .before .table-verdict .result .number) 0 (c .before .before .before .if1 .left)) in
     (right, (c .read-tasks .ensures, c .before .before .if2 .left))
 
-passes-any-requires : tie.Need-passes-any-requires
-passes-any-requires c κs = search needs
-
-refused-requires-4 : tie.Need-refused-requires-4
-refused-requires-4 c κs = search needs
-
-returns-4 : tie.Need-returns-4
-returns-4 c =
-    let image = c .before .before .before .before .before .before .before .before .before .before .before .before .before .args .image .now in
-    let lent = c .before .before .before .before .before .before .before .before .before .before .before .before .before .args .map .now in
-    let ids = c .before .before .before .before .before .before .before .before .before .before .before .before .before .args .ids .now in
-    let right : accepted (tableVerdict image) ≡ true = subst (λ (v : Verdict). accepted v ≡ true) (c .before .before .before .before .before .before .before .before .before .table-verdict .ensures) (eq-eqb (c .before .before .before .before .before .before .before .before .before .table-verdict .result .number) 0 (c .before .before .before .before .before .before .before .if1 .left)) in
-    subst (λ (answer : Bounds). BoundCall image lent ids answer ids) (sym (c .refused4 .ensures)) (by-size image lent ids right (c .before .before .before .before .before .before .if2 .left) (c .before .before .before .before .before .if3 .left) (c .before .before .before .find .result) (c .before .before .before .find .ensures) (sym (c .before .before .passes-any .ensures) ∙ c .before .if4 .taken))
-
 slice-aggregate-write-ids : tie.Need-slice-aggregate-write-ids
 slice-aggregate-write-ids c = search needs
 
 write-ids-requires : tie.Need-write-ids-requires
 write-ids-requires c κs =
-    let image = c .before .before .before .before .before .before .before .before .before .before .before .before .before .before .before .before .args .image .now in
-    let lent = c .before .before .before .before .before .before .before .before .before .before .before .before .before .before .before .before .args .map .now in
-    let ids = c .before .before .before .before .before .before .before .before .before .before .before .before .before .before .before .before .args .ids .now in
-    let right : accepted (tableVerdict image) ≡ true = subst (λ (v : Verdict). accepted v ≡ true) (c .before .before .before .before .before .before .before .before .before .before .before .before .table-verdict .ensures) (eq-eqb (c .before .before .before .before .before .before .before .before .before .before .before .before .table-verdict .result .number) 0 (c .before .before .before .before .before .before .before .before .before .before .if1 .left)) in
-    let known = c .before .before .before .before .before .before .before .before .before .before .before .before .before .before .before .shared-slice-known .given in
-    let t = c .before .before .before .before .before .before .before .read-tasks .result in
-    let read = c .before .before .before .before .before .before .before .read-tasks .ensures in
-    let found = c .before .before .before .before .before .before .find .ensures in
-    let long : length (c .before .before .before .before .before .before .find .result .places) ≡ 64 = search needs in
-    ((long, found .room, ids-long image known right t read, c .before .before .before .before .before .before .before .before .if3 .left), (λ k h. places-below image lent ids right (c .before .before .before .before .before .before .before .before .before .if2 .left) (c .before .before .before .before .before .before .before .before .if3 .left) (c .before .before .before .before .before .before .find .result) found (shape image known right .few-tasks) k long h, ids-small image known right t read))
+    let image = c .before .before .before .before .before .before .before .before .before .before .before .before .before .before .args .image .now in
+    let lent = c .before .before .before .before .before .before .before .before .before .before .before .before .before .before .args .map .now in
+    let ids = c .before .before .before .before .before .before .before .before .before .before .before .before .before .before .args .ids .now in
+    let right : accepted (tableVerdict image) ≡ true = subst (λ (v : Verdict). accepted v ≡ true) (c .before .before .before .before .before .before .before .before .before .before .table-verdict .ensures) (eq-eqb (c .before .before .before .before .before .before .before .before .before .before .table-verdict .result .number) 0 (c .before .before .before .before .before .before .before .before .if1 .left)) in
+    let known = c .before .before .before .before .before .before .before .before .before .before .before .before .before .shared-slice-known .given in
+    let t = c .before .before .before .before .before .read-tasks .result in
+    let read = c .before .before .before .before .before .read-tasks .ensures in
+    let found = c .before .before .before .before .find .ensures in
+    let long : length (c .before .before .before .before .find .result .places) ≡ 64 = search needs in
+    ((long, found .room, ids-long image known right t read, c .before .before .before .before .before .before .if3 .left), (λ k h. places-below image lent ids right (c .before .before .before .before .before .before .before .if2 .left) (c .before .before .before .before .before .before .if3 .left) (c .before .before .before .before .find .result) found (shape image known right .few-tasks) k long h, ids-small image known right t read))
+
+cast-t17 : tie.Need-cast-t17
+cast-t17 c =
+    let image = c .before .before .before .before .before .before .before .before .before .before .before .before .before .before .before .before .before .before .args .image .now in
+    let right : accepted (tableVerdict image) ≡ true = subst (λ (v : Verdict). accepted v ≡ true) (c .before .before .before .before .before .before .before .before .before .before .before .before .before .before .table-verdict .ensures) (eq-eqb (c .before .before .before .before .before .before .before .before .before .before .before .before .before .before .table-verdict .result .number) 0 (c .before .before .before .before .before .before .before .before .before .before .before .before .if1 .left)) in
+    omega (arith, few-read image (c .before .before .before .before .before .before .before .before .before .before .before .before .before .before .before .before .before .shared-slice-known .given) right (c .before .before .before .before .before .before .before .before .before .read-tasks .result) (c .before .before .before .before .before .before .before .before .before .read-tasks .ensures))
 
 cast-t18 : tie.Need-cast-t18
-cast-t18 c =
-    let image = c .before .before .before .before .before .before .before .before .before .before .before .before .before .before .before .before .before .before .before .before .args .image .now in
-    let right : accepted (tableVerdict image) ≡ true = subst (λ (v : Verdict). accepted v ≡ true) (c .before .before .before .before .before .before .before .before .before .before .before .before .before .before .before .before .table-verdict .ensures) (eq-eqb (c .before .before .before .before .before .before .before .before .before .before .before .before .before .before .before .before .table-verdict .result .number) 0 (c .before .before .before .before .before .before .before .before .before .before .before .before .before .before .if1 .left)) in
-    omega (arith, few-read image (c .before .before .before .before .before .before .before .before .before .before .before .before .before .before .before .before .before .before .before .shared-slice-known .given) right (c .before .before .before .before .before .before .before .before .before .before .before .read-tasks .result) (c .before .before .before .before .before .before .before .before .before .before .before .read-tasks .ensures))
-
-cast-t19 : tie.Need-cast-t19
-cast-t19 c =
-    let found = c .before .before .before .before .before .before .before .before .before .before .before .find .result in
-    let small = sym (c .before .before .before .before .before .before .before .before .before .before .passes-any .ensures) ∙ c .before .before .before .before .before .before .before .before .before .if4 .left in
-    let rest = neither-second (passes (found .chain)) _ small in
-    let last = neither-first (passes (found .transactions)) _ (neither-second (passes (found .path)) _ rest) in
-    omega (arith, ltb-false 4294967295 (found .transactions) last)
-
-cast-t20 : tie.Need-cast-t20
-cast-t20 c = search needs
+cast-t18 c = search needs
 
 same-length : tie.Need-same-length
 same-length c = search needs
 
-returns-5 : tie.Need-returns-5
-returns-5 c =
-    let image = c .before .before .before .before .before .before .before .before .before .before .before .before .before .before .before .before .before .before .before .before .before .args .image .now in
-    let lent = c .before .before .before .before .before .before .before .before .before .before .before .before .before .before .before .before .before .before .before .before .before .args .map .now in
-    let ids = c .before .before .before .before .before .before .before .before .before .before .before .before .before .before .before .before .before .before .before .before .before .args .ids .now in
-    let right : accepted (tableVerdict image) ≡ true = subst (λ (v : Verdict). accepted v ≡ true) (c .before .before .before .before .before .before .before .before .before .before .before .before .before .before .before .before .before .table-verdict .ensures) (eq-eqb (c .before .before .before .before .before .before .before .before .before .before .before .before .before .before .before .before .before .table-verdict .result .number) 0 (c .before .before .before .before .before .before .before .before .before .before .before .before .before .before .before .if1 .left)) in
-    let known = c .before .before .before .before .before .before .before .before .before .before .before .before .before .before .before .before .before .before .before .before .shared-slice-known .given in
-    let t = c .before .before .before .before .before .before .before .before .before .before .before .before .read-tasks .result in
-    let read = c .before .before .before .before .before .before .before .before .before .before .before .before .read-tasks .ensures in
-    let found = c .before .before .before .before .before .before .before .before .before .before .before .find .result in
+returns-4 : tie.Need-returns-4
+returns-4 c =
+    let image = c .before .before .before .before .before .before .before .before .before .before .before .before .before .before .before .before .before .before .args .image .now in
+    let lent = c .before .before .before .before .before .before .before .before .before .before .before .before .before .before .before .before .before .before .args .map .now in
+    let ids = c .before .before .before .before .before .before .before .before .before .before .before .before .before .before .before .before .before .before .args .ids .now in
+    let right : accepted (tableVerdict image) ≡ true = subst (λ (v : Verdict). accepted v ≡ true) (c .before .before .before .before .before .before .before .before .before .before .before .before .before .before .table-verdict .ensures) (eq-eqb (c .before .before .before .before .before .before .before .before .before .before .before .before .before .before .table-verdict .result .number) 0 (c .before .before .before .before .before .before .before .before .before .before .before .before .if1 .left)) in
+    let known = c .before .before .before .before .before .before .before .before .before .before .before .before .before .before .before .before .before .shared-slice-known .given in
+    let t = c .before .before .before .before .before .before .before .before .before .read-tasks .result in
+    let read = c .before .before .before .before .before .before .before .before .before .read-tasks .ensures in
+    let found = c .before .before .before .before .before .before .before .before .find .result in
     let whole = shape image known right in
     let long : length (found .places) ≡ 64 = search needs in
     let named = ap (λ (f : ℕ → ℕ). over (map f (take (found .length) (found .places))) ids) (ids-same (records image) lent t whole read) in
-    answered image lent ids right (c .before .before .before .before .before .before .before .before .before .before .before .before .before .before .if2 .left) (c .before .before .before .before .before .before .before .before .before .before .before .before .before .if3 .left) found (c .before .before .before .before .before .before .before .before .before .before .before .find .ensures) _ (t .count) (sym (c .before .before .before .before .before .before .before .before .before .before .passes-any .ensures) ∙ c .before .before .before .before .before .before .before .before .before .if4 .left) (read .count) long (c .before .before .before .before .write-ids .ensures ∙ named)
+    answered image lent ids right (c .before .before .before .before .before .before .before .before .before .before .before .if2 .left) (c .before .before .before .before .before .before .before .before .before .before .if3 .left) found (c .before .before .before .before .before .before .before .before .find .ensures) _ (t .count) (read .count) long (c .before .before .before .write-ids .ensures ∙ named)
 
 pub find-bounds-spec : {M : Type 1} → statement M
 find-bounds-spec =
@@ -149,13 +124,9 @@ find-bounds-spec =
     returns-3
     read-tasks-requires
     find-requires
-    passes-any-requires
-    refused-requires-4
-    returns-4
     slice-aggregate-write-ids
     write-ids-requires
+    cast-t17
     cast-t18
-    cast-t19
-    cast-t20
     same-length
-    returns-5)
+    returns-4)

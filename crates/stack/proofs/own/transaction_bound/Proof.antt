@@ -1,21 +1,25 @@
--- The loop keeps the bounds of the transactions passed and their sum.
+-- The loop keeps the bounds of the transactions passed and their sum, which is never above what all tasks weigh.
 use Rattle.table.proofs.Counts.{records-accepted, table-held}
-use Prim.Native.Nat.{ℕ, _*_, _-_, _≤_, _<_}
-use mathlib.Core.List.{[]}
+use Prim.Native.Nat.{ℕ, _+_, _-_, _≤_, _<_}
+use mathlib.Core.List.{List, []}
 use mathlib.Core.Path.{_≡_, ap, subst, _∙_}
 use lib.ListN.{length, getD}
 use Rattle.rules.specs.Blocks.{records}
 use Rattle.rules.specs.Records.{numberOf, transactions as Records·transactions}
 use Rattle.preempt.proofs.Accepted.{shape, record-whole, transaction-record}
 use Rattle.stack.specs.Figures.{OwnPaths}
-use Rattle.stack.proofs.Owning.{members-inside, members-own, own-none, own-more}
+use Rattle.stack.proofs.Owning.{members-inside, members-own, own-none, own-more, own-within}
 use native.Mathlib.Omega.{arith}
 use borrow.Author.Needs.{needs}
 use Rattle.stack.proofs.own.transaction_bound.Statement.{statement}
 use Rattle.stack.proofs.own.transaction_bound.Tie as tie
 
+-- the transactions of the table
+abbrev listed : List ℕ → List (List ℕ)
+listed image = Records·transactions (records image)
+
 abbrev Inv-loop : tie.InvT-loop
-Inv-loop image numbers rows sizes order count transactions total₀ t₀ total t = (t ≤ transactions) × (total ≤ 4294967295 * t) × OwnPaths count rows sizes numbers (Records·transactions (records image)) t total
+Inv-loop image numbers rows sizes order count transactions total₀ t₀ total t = (t ≤ transactions) × OwnPaths count rows sizes numbers (listed image) t total
 
 abbrev μ-loop : tie.MeasureT-loop
 μ-loop image numbers rows sizes order count transactions total₀ t₀ total t = transactions - t
@@ -26,7 +30,7 @@ count-kind-requires c κs = ((records-accepted (c .before .before .before .befor
 loop-holds : tie.Need-loop-holds Inv-loop μ-loop
 loop-holds c =
     let a = c .before .before .before .before .before .before .args in
-    (omega arith, omega arith, own-none (a .count) (a .rows .now) (a .sizes .now) (a .numbers .now) (Records·transactions (records (a .image .now))))
+    (omega arith, own-none (a .count) (a .rows .now) (a .sizes .now) (a .numbers .now) (listed (a .image .now)))
 
 record-at-requires : tie.Need-record-at-requires Inv-loop μ-loop
 record-at-requires c κs =
@@ -41,11 +45,27 @@ members-requires c κs = (c .before .before .before .before .before .before .bef
 path-bound-requires : tie.Need-path-bound-requires Inv-loop μ-loop
 path-bound-requires c κs = (c .before .before .before .before .before .before .before .before .before .before .before .pre .1 .0, members-inside (c .before .before .before .before .before .before .before .before .before .before .before .args .numbers .now) (c .before .before .before .before .before .before .before .before .before .before .before .args .count) (c .before .two-bytes .result) (c .members .result) (c .before .before .before .before .before .before .before .before .before .before .before .pre .1 .0 .few) (c .members .ensures))
 
-cast-bound : tie.Need-cast-bound Inv-loop μ-loop
-cast-bound c = omega (arith, c .path-bound .ok)
+-- the transaction in hand is one of those listed
+inside : (c : tie.After-path-bound Inv-loop μ-loop) → c .before .before .before .before .before .loop .t < length (listed (c .before .before .before .before .before .before .before .before .before .before .before .before .args .image .now))
+inside c = omega (arith, c .before .before .before .before .before .before .count-kind .ensures .0, c .before .before .before .before .loop-test .taken)
+
+-- one more transaction adds its own bound
+next : (c : tie.After-path-bound Inv-loop μ-loop)
+    → OwnPaths (c .before .before .before .before .before .before .before .before .before .before .before .before .args .count) (c .before .before .before .before .before .before .before .before .before .before .before .before .args .rows .now) (c .before .before .before .before .before .before .before .before .before .before .before .before .args .sizes .now) (c .before .before .before .before .before .before .before .before .before .before .before .before .args .numbers .now)
+    (listed (c .before .before .before .before .before .before .before .before .before .before .before .before .args .image .now)) (c .before .before .before .before .before .loop .t + 1) (c .before .before .before .before .before .loop .total + c .path-bound .result)
+next c =
+    let a = c .before .before .before .before .before .before .before .before .before .before .before .before .args in
+    let t = c .before .before .before .before .before .loop .t in
+    let number = c .before .before .two-bytes .result in
+    let here : number ≡ numberOf (getD (listed (a .image .now)) t []) = c .before .before .two-bytes .ensures .0 ∙ ap numberOf (c .before .before .before .record-at .ensures ∙ transaction-record (a .image .now) (c .before .before .before .before .before .before .before .before .before .before .before .shared-slice-known .given) (c .before .before .before .before .before .before .before .before .before .before .before .before .pre .0) t (inside c)) in
+    let bound = members-own (a .count) (a .rows .now) (a .sizes .now) (a .numbers .now) (listed (a .image .now)) t number (c .before .members .result) (c .path-bound .result) here (c .before .before .before .before .before .before .before .before .before .before .before .before .pre .1 .0 .few) (c .before .members .ensures) (c .path-bound .ensures) in
+    own-more (a .count) (a .rows .now) (a .sizes .now) (a .numbers .now) (listed (a .image .now)) t (c .before .before .before .before .before .loop .total) (c .path-bound .result) (c .before .before .before .before .before .loop .inv .1) bound
 
 add-total : tie.Need-add-total Inv-loop μ-loop
-add-total c = omega (arith, c .path-bound .ok, c .before .before .before .before .before .loop .inv .1, c .before .before .before .before .loop-test .taken, c .before .before .before .before .before .before .count-kind .ensures .0, shape (c .before .before .before .before .before .before .before .before .before .before .before .before .args .image .now) (c .before .before .before .before .before .before .before .before .before .before .before .shared-slice-known .given) (c .before .before .before .before .before .before .before .before .before .before .before .before .pre .0) .few-transactions)
+add-total c =
+    let start = c .before .before .before .before .before .before .before .before .before .before .before .before in
+    let rise = shape (start .args .image .now) (c .before .before .before .before .before .before .before .before .before .before .before .shared-slice-known .given) (start .pre .0) .transactions-rise in
+    omega (arith, own-within (start .pre .1 .0) (start .args .numbers .now) (listed (start .args .image .now)) (c .before .before .before .before .before .loop .t + 1) (c .before .before .before .before .before .loop .total + c .path-bound .result) rise (omega (arith, inside c)) (next c))
 
 add-t : tie.Need-add-t Inv-loop μ-loop
 add-t c = search needs
@@ -54,21 +74,13 @@ loop-less : tie.Need-loop-less Inv-loop μ-loop
 loop-less c = search needs
 
 loop-again : tie.Need-loop-again Inv-loop μ-loop
-loop-again c =
-    let a = c .before .before .before .before .before .before .before .before .before .before .before .before .args in
-    let image = a .image .now in
-    let listed = Records·transactions (records image) in
-    let inside : c .before .before .before .before .before .loop .t < length listed = omega (arith, c .before .before .before .before .before .before .count-kind .ensures .0, c .before .before .before .before .loop-test .taken) in
-    let here : c .before .before .two-bytes .result ≡ numberOf (getD listed (c .before .before .before .before .before .loop .t) []) = c .before .before .two-bytes .ensures .0 ∙ ap numberOf (c .before .before .before .record-at .ensures ∙ transaction-record image (c .before .before .before .before .before .before .before .before .before .before .before .shared-slice-known .given) (c .before .before .before .before .before .before .before .before .before .before .before .before .pre .0) (c .before .before .before .before .before .loop .t) inside) in
-    let bound = members-own (a .count) (a .rows .now) (a .sizes .now) (a .numbers .now) listed (c .before .before .before .before .before .loop .t) (c .before .before .two-bytes .result) (c .before .members .result) (c .path-bound .result) here (c .before .before .before .before .before .before .before .before .before .before .before .before .pre .1 .0 .few) (c .before .members .ensures) (c .path-bound .ensures) in
-    (omega (arith, c .before .before .before .before .loop-test .taken), omega (arith, c .path-bound .ok), own-more (a .count) (a .rows .now) (a .sizes .now) (a .numbers .now) listed (c .before .before .before .before .before .loop .t) (c .before .before .before .before .before .loop .total) (c .path-bound .result) (c .before .before .before .before .before .loop .inv .2) bound)
+loop-again c = (omega (arith, c .before .before .before .before .loop-test .taken), next c)
 
 returns : tie.Need-returns Inv-loop μ-loop
 returns c =
     let a = c .before .before .before .before .before .before .before .before .args in
-    let listed = Records·transactions (records (a .image .now)) in
-    let end : c .before .loop .t ≡ length listed = omega (arith, c .before .before .count-kind .ensures .0, c .loop-test .left, c .before .loop .inv .0) in
-    subst (λ (n : ℕ). OwnPaths (a .count) (a .rows .now) (a .sizes .now) (a .numbers .now) listed n (c .before .loop .total)) end (c .before .loop .inv .2)
+    let end : c .before .loop .t ≡ length (listed (a .image .now)) = omega (arith, c .before .before .count-kind .ensures .0, c .loop-test .left, c .before .loop .inv .0) in
+    subst (λ (n : ℕ). OwnPaths (a .count) (a .rows .now) (a .sizes .now) (a .numbers .now) (listed (a .image .now)) n (c .before .loop .total)) end (c .before .loop .inv .1)
 
 pub transaction-bound-spec : {M : Type 1} → statement M
 transaction-bound-spec =
@@ -82,7 +94,6 @@ transaction-bound-spec =
     two-bytes-requires
     members-requires
     path-bound-requires
-    cast-bound
     add-total
     add-t
     loop-less
