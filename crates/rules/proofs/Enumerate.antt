@@ -45,7 +45,7 @@ figures-right rs rows apart =
     record {
       chain =
           heaviest-heaviest (taskCount rs) (related rs rows) (sizeAt rs) (idAt rs) (priorityAt rs) (topOf rs)
-          (related-rises rs rows) (λ i l. size-in-level rs i l .1) apart;
+          (related-rises rs rows) (λ i l. size-in-level (sizeAt rs) (priorityAt rs) (taskCount rs) i l .1) apart;
       path = largest-path (taskCount rs) (related rs rows) (sizeAt rs) (pathOver rs rows every) (largest every);
       transactions =
           record { each = λ t. pathOver rs rows (inTransaction rs t); bound = λ t l. largest (inTransaction rs t); total = refl };
@@ -55,4 +55,4 @@ figures-right rs rows apart =
     largest : (test : ℕ → Bool) → Largest (λ c. Path (taskCount rs) (related rs rows) c × All test c) (weight (sizeAt rs)) (pathOver rs rows test)
     largest test =
         pathSum-largest (taskCount rs) (related rs rows) (sizeAt rs) test (priorityAt rs) (topOf rs)
-        (related-rises rs rows) (λ i l. size-in-level rs i l .1)
+        (related-rises rs rows) (λ i l. size-in-level (sizeAt rs) (priorityAt rs) (taskCount rs) i l .1)

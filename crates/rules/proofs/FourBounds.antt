@@ -1,7 +1,7 @@
 -- The four bounds: how the answer of a bound call is ordered, for every image and every map, and what none of them passes.
 use Prim.Native.Nat.{ℕ, _≤_, _<_}
 use mathlib.Core.List.{List, []}
-use mathlib.Core.Bool.{Bool, true, _||_}
+use mathlib.Core.Bool.{true, _||_}
 use mathlib.Core.Path.{_≡_}
 use native.Mathlib.Omega.{arith}
 use lib.ListN.{length, getD}
@@ -15,12 +15,12 @@ use Rattle.rules.specs.Chains.{related, sizeAt, priorityAt, Figures, Fig
 use Rattle.rules.specs.Refusals.{accepted, tableVerdict, shortRefusal}
 use Rattle.rules.specs.Calls.{boundVerdict, boundRefusal, boundsFound, BoundCall, BoundsWorkedOut}
 use Rattle.rules.proofs.Refusals.{accepted-both}
-use Rattle.rules.proofs.Numbers.{either, sumTo-light}
+use Rattle.rules.proofs.Numbers.{either}
 use Rattle.rules.proofs.Table.Ranges.{le2-small}
 use Rattle.rules.proofs.Table.Shape.{Shape, ofKind-bytes}
 use Rattle.rules.proofs.Table.Listed.{table-of}
-use Rattle.rules.proofs.FourBounds.Order.{chain≤path, path≤levels, chain≤transactions, related-rises}
-use Rattle.rules.proofs.FourBounds.Total.{path≤total, transactions≤total, levels≤total}
+use Rattle.rules.proofs.FourBounds.Order.{chain≤path, path≤levels, chain≤transactions}
+use Rattle.rules.proofs.FourBounds.Total.{total-within, transactions≤total, levels≤total}
 use Rattle.rules.proofs.FourBounds.Accepted.{accepted-listed}
 pub mod Order
 pub mod Accepted
@@ -71,31 +71,21 @@ WithinLimits answer =
 pub bounds-within : (image rows : List ℕ) (f : Figures) → Bytes image → accepted (tableVerdict image) ≡ true
     → FiguresOf (records image) rows f → WithinLimits (boundsFound (records image) f)
 bounds-within image rows f bytes table right =
-    let (c, path, heavy) = right .path .reached in
-    let longest = path≤total n R (sizeAt rs) (priorityAt rs) (λ i j h k. related-rises rs rows i j) c path in
-    let most : f .path ≤ 4194240 = omega (arith, total, heavy, longest) in (
-      omega (arith, most, chain≤path n R (sizeAt rs) (f .path) (f .chain) (right .path) (right .chain .chain)),
-      most,
+    let ordered = figures-ordered rs rows f (accepted-listed image table) right in
+    let most : f .levels ≤ 4194240 = omega (arith, total, right .levels, levels≤total (sizeAt rs) (priorityAt rs) (taskCount rs)) in (
+      omega (arith, most, ordered),
+      omega (arith, most, ordered),
       omega (arith, total, transactions≤total rs rows (f .transactions) (shape .transactions-rise) (right .transactions)),
-      omega (arith, total, right .levels, levels≤total rs),
+      most,
     )
   where
     rs : List (List ℕ)
     rs = records image
 
-    n : ℕ
-    n = taskCount rs
-
-    R : ℕ → ℕ → Bool
-    R = related rs rows
-
     shape : Shape rs
     shape = table-of image bytes table .0
 
-    total : sumTo (sizeAt rs) n ≤ 4194240
+    total : sumTo (sizeAt rs) (taskCount rs) ≤ 4194240
     total =
-        omega (
-          arith,
-          shape .few-tasks,
-          sumTo-light (sizeAt rs) n (λ i h. omega (arith, le2-small (getD (tasks rs) i []) (ofKind-bytes image bytes 2 i) 20)),
-        )
+        total-within (sizeAt rs) (taskCount rs) (shape .few-tasks)
+        (λ i h. omega (arith, le2-small (getD (tasks rs) i []) (ofKind-bytes image bytes 2 i) 20))

@@ -241,11 +241,20 @@ sumTo-more f g (suc n) k x all h more =
     let e : n ≡ k = omega (arith, ltb-false k n t) in
     rw e (omega (arith, sumTo-least f g k (λ i l. all i))))
 
--- numbers that are all 0 add up to 0
-pub sumTo-none : (f : ℕ → ℕ) (n : ℕ) → ((t : ℕ) → t < n → f t ≡ 0) → sumTo f n ≡ 0
+-- numbers that are 0 add nothing
+pub sumTo-rest : (f : ℕ → ℕ) (m n : ℕ) → m ≤ n → ((t : ℕ) → m ≤ t → t < n → f t ≡ 0) → sumTo f n ≡ sumTo f m
 unfolding sumTo
-sumTo-none f zero none = refl
-sumTo-none f (suc n) none = omega (arith, none n (omega arith), sumTo-none f n (λ t h. none t (omega arith)))
+sumTo-rest f m zero h zeros =
+    let e : m ≡ 0 = omega arith in
+    rw e
+sumTo-rest f m (suc n) h zeros =
+    either (ltb n m)
+    (λ t.
+    let e : m ≡ suc n = omega (arith, ltb-true n m t) in
+    rw e)
+    (λ t.
+    let low : m ≤ n = ltb-false n m t in
+    omega (arith, zeros n low (omega arith), sumTo-rest f m n low (λ k l below. zeros k l (omega arith))))
 
 -- numbers that are at most 65,535 each
 pub sumTo-light : (f : ℕ → ℕ) (n : ℕ) → ((t : ℕ) → t < n → f t ≤ 65535) → sumTo f n ≤ 65535 * n
@@ -274,5 +283,5 @@ sumTo-once test x (suc n) one =
     either (test n)
     (λ here.
     let others : (t : ℕ) → t < n → cond (test t) x 0 ≡ 0 = λ t h. either (test t) (λ there. absurd (omega (arith, one t n (omega arith) (omega arith) there here))) (λ not-there. rw not-there) in
-    rw here (omega (arith, sumTo-none (λ t. cond (test t) x 0) n others)))
+    rw here (omega (arith, sumTo-rest (λ t. cond (test t) x 0) 0 n (omega arith) (λ t l h. others t h))))
     (λ not-here. rw not-here (omega (arith, sumTo-once test x n (λ t u h k. one t u (omega arith) (omega arith)))))

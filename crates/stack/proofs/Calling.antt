@@ -42,6 +42,10 @@ module _ (image lent ids : List ℕ) where
     unfolding boundVerdict
     no-fault = rw (yes′, le-ltb (length lent) 64 map-long, le-ltb (length ids) 64 room-long)
 
+    -- the chain has as many places as it is long
+    chain-long : length (found .places) ≡ 64 → length (take (found .length) (found .places)) ≡ found .length
+    chain-long long = length-take-le (found .length) (found .places) (omega (arith, right .room))
+
     -- the figures that were found are those that the answer speaks of
     pub answered : (later : List ℕ) (count : ℕ) → count ≡ taskCount (records image) → length (found .places) ≡ 64 → later ≡ over (chainIds (records image) (figuresIn found)) ids
         → BoundCall image lent ids
@@ -57,18 +61,16 @@ module _ (image lent ids : List ℕ) where
         })
         later
     answered later count counted long written =
-        let size : length (take (found .length) (found .places)) ≡ found .length = length-take-le (found .length) (found .places) (omega (arith, right .room)) in
         record {
           refused = λ h. never (accepted (boundVerdict image lent ids)) no-fault h;
-          worked = λ h. record { figures = figuresIn found; right = right .right; found = (rw (counted, right .chain, size), written) };
+          worked = λ h. record { figures = figuresIn found; right = right .right; found = (rw (counted, right .chain, chain-long long), written) };
         }
 
     -- every place of the chain is a task's
     pub places-below : (few : taskCount (records image) ≤ 64) (k : ℕ) → length (found .places) ≡ 64 → k < found .length → getD (found .places) k 0 < 64
     places-below few k long h =
-        let size : length (take (found .length) (found .places)) ≡ found .length = length-take-le (found .length) (found .places) (omega (arith, right .room)) in
         let within = chain-within (taskCount (records image)) (related (records image) lent) (take (found .length) (found .places)) (right .right .chain .chain) in
-        omega (arith, within-at (taskCount (records image)) (take (found .length) (found .places)) within k (omega arith), getD-take (found .length) (found .places) k 0 h)
+        omega (arith, within-at (taskCount (records image)) (take (found .length) (found .places)) within k (omega (arith, chain-long long)), getD-take (found .length) (found .places) k 0 h)
       where
         within-at : (n : ℕ) (c : List ℕ) → Within n c → (k : ℕ) → k < length c → getD c k 0 < n
         within-at n [] w k l = absurd (omega arith)

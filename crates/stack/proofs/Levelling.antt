@@ -9,7 +9,7 @@ use lib.Dec.{eqb}
 use lib.ListN.{getD, set as set-at, length-set}
 use lib.Seq.{getD-set-same, getD-set-other}
 use Rattle.rules.specs.Numbers.{sumTo, largestTo}
-use Rattle.rules.proofs.Numbers.{either, largestTo-step, largestTo-most}
+use Rattle.rules.proofs.Numbers.{either, largestTo-step, largestTo-most, sumTo-rest}
 use Rattle.stack.specs.Levels.{sizeWith, levelIn, levelsOf, Sized, Blank, LargestSizes}
 
 -- the largest is at most what each number is at most
@@ -17,19 +17,6 @@ pub largestTo-light : (f : ℕ → ℕ) (n most : ℕ) → ((i : ℕ) → i < n 
 unfolding largestTo
 largestTo-light f zero most h = omega arith
 largestTo-light f (suc n) most h = omega (arith, largestTo-light f n most (λ i l. h i (omega arith)), h n (omega arith))
-
--- numbers that are 0 add nothing
-pub sumTo-rest : (f : ℕ → ℕ) (m n : ℕ) → m ≤ n → ((i : ℕ) → m ≤ i → f i ≡ 0) → sumTo f n ≡ sumTo f m
-unfolding sumTo
-sumTo-rest f m zero h zeros =
-    let e : m ≡ 0 = omega arith in
-    rw e
-sumTo-rest f m (suc n) h zeros =
-    either (eqb m (suc n))
-    (λ t. rw (eqb-true m (suc n) t))
-    (λ t.
-    let low : m ≤ n = omega (arith, eqb-false m (suc n) t) in
-    omega (arith, sumTo-rest f m n low zeros, zeros n low))
 
 module _ {count : ℕ} {priorities sizes : List ℕ} (sized : Sized count priorities sizes) where
   -- no priority in use is above 255
@@ -56,7 +43,7 @@ module _ {count : ℕ} {priorities sizes : List ℕ} (sized : Sized count priori
   -- so the levels of all 256 priorities add up to the same
   pub levels-all : sumTo (levelIn priorities sizes count) 256 ≡ levelsOf priorities sizes count
   levels-all =
-      sumTo-rest (levelIn priorities sizes count) (largestTo (λ i. getD priorities i 0) count + 1) 256 (omega (arith, priorities-light)) level-unused
+      sumTo-rest (levelIn priorities sizes count) (largestTo (λ i. getD priorities i 0) count + 1) 256 (omega (arith, priorities-light)) (λ p above h. level-unused p above)
 
 -- with no task every level is 0
 pub sizes-none : {priorities sizes largest : List ℕ} → Blank largest → LargestSizes 0 priorities sizes largest

@@ -11,11 +11,11 @@ use Rattle.rules.specs.Numbers.{sumTo, lowest}
 use Rattle.rules.specs.Records.{numberOf}
 use Rattle.rules.specs.Preempt.{cell, rowFrom}
 use Rattle.rules.specs.Chains.{weight, Path, All, Largest}
-use Rattle.rules.proofs.Numbers.{either, lowest-passes, some-true, sumTo-zero, sumTo-step, sumTo-ext, sumTo-light}
+use Rattle.rules.proofs.Numbers.{either, lowest-passes, some-true, sumTo-zero, sumTo-step, sumTo-ext}
 use Rattle.rules.proofs.Tests.{both-first}
 use Rattle.rules.proofs.Maps.{row-at}
 use Rattle.rules.proofs.Table.Order.{Rises, one-with}
-use Rattle.rules.proofs.FourBounds.Total.{own-paths≤total}
+use Rattle.rules.proofs.FourBounds.Total.{total-within, own-paths≤total}
 use Rattle.preempt.specs.Bits.{bitAt, numbered}
 use Rattle.preempt.specs.Places.{Inside}
 use Rattle.stack.specs.Setting.{Ready}
@@ -90,9 +90,8 @@ module _ {n : ℕ} {rows sizes order : List ℕ} (ready : Ready n rows sizes ord
   own-within numbers listed m r rise few own =
       omega (
         arith,
-        ready .few,
         own .total,
         own-paths≤total n (cell rows) (sizeIn sizes) (λ i. n - lowest (at i) n) rises-from-end (ownTask numbers listed) m (own .each)
             (λ i t u h k l. one-with listed rise (getD numbers i 0) t u (omega arith) (omega arith)) (own .bound),
-        sumTo-light (sizeIn sizes) n (ready .light),
+        total-within (sizeIn sizes) n (ready .few) (ready .light),
       )

@@ -10,7 +10,7 @@ use lib.Dec.{T, ltb, eqb}
 use Rattle.rules.specs.Numbers.{sumTo, largestTo}
 use Rattle.rules.specs.Records.{taskCount, taskAt, transactions, numberOf, placeOf, listed}
 use Rattle.rules.specs.Preempt.{cell}
-use Rattle.rules.specs.Chains.{weight, Under, Chain, Path, All, Largest, related, sizeAt, priorityAt, inTransaction, TransactionBound, levelAt, levelBound}
+use Rattle.rules.specs.Chains.{weight, Under, Chain, Path, All, Largest, related, sizeAt, priorityAt, inTransaction, TransactionBound, levelBound}
 use Rattle.rules.proofs.Tests.{T-true, true-T, both}
 use Rattle.rules.proofs.Numbers.{either, largestTo-most, lowest-passes, sumTo-longer, sumTo-least, sumTo-more}
 
@@ -30,20 +30,41 @@ largest-chain≤path n R S q r chains paths =
     let (c, chain, same) = chains .reached in
     omega (arith, chain≤path n R S r c paths chain, same)
 
+-- the largest of the sizes at a priority, and these added up up to the highest in use
+abbrev pub level : (ℕ → ℕ) → (ℕ → ℕ) → ℕ → ℕ → ℕ
+level S P n p = largestTo (λ i. cond (eqb (P i) p) (S i) 0) n
+
+abbrev pub levels : (ℕ → ℕ) → (ℕ → ℕ) → ℕ → ℕ
+levels S P n = sumTo (level S P n) (largestTo P n + 1)
+
+-- a task's size is at most what its level holds, and its level is one of those added up
+pub size-in-level : (S P : ℕ → ℕ) (n i : ℕ) → i < n → (S i ≤ level S P n (P i)) × (P i < largestTo P n + 1)
+size-in-level S P n i h = (
+  rw (eq-eqb (P i) (P i) refl) at (largestTo-most (λ k. cond (eqb (P k) (P i)) (S k) 0) n i h),
+  omega (arith, largestTo-most P n i h),
+)
+
+-- a path starts at a task
+starts-below : (n : ℕ) (R : ℕ → ℕ → Bool) (i : ℕ) (c : List ℕ) → Path n R (i ∷ c) → i < n
+starts-below n R i [] h = h
+starts-below n R i (j ∷ c) h = h .0
+
 -- priorities rise along a path, so that it has at most one task at each: together with what the levels below its first
 -- task hold, it weighs at most what all levels hold
-module _ (n : ℕ) (R : ℕ → ℕ → Bool) (S P level : ℕ → ℕ) (top : ℕ)
-    (rises : (i j : ℕ) → T (R i j) → P i < P j)
-    (inside : (i : ℕ) → i < n → (S i ≤ level (P i)) × (P i < top)) where
+module _ (n : ℕ) (R : ℕ → ℕ → Bool) (S P : ℕ → ℕ) (rises : (i j : ℕ) → i < n → j < n → T (R i j) → P i < P j) where
   -- a path that starts at i
-  climb : (i : ℕ) (c : List ℕ) → Path n R (i ∷ c) → weight S (i ∷ c) + sumTo level (P i) ≤ sumTo level top
+  climb : (i : ℕ) (c : List ℕ) → Path n R (i ∷ c) → weight S (i ∷ c) + sumTo (level S P n) (P i) ≤ levels S P n
   unfolding sumTo
-  climb i [] h = omega (arith, inside i h, sumTo-longer level (suc (P i)) top (inside i h .1))
+  climb i [] h =
+      let (held, below) = size-in-level S P n i h in
+      omega (arith, held, sumTo-longer (level S P n) (suc (P i)) (largestTo P n + 1) below)
   climb i (j ∷ c) h =
-      omega (arith, inside i (h .0), sumTo-longer level (suc (P i)) (P j) (rises i j (h .1)), climb j c (h .2))
+      let (held, below) = size-in-level S P n i (h .0) in
+      let up : P i < P j = rises i j (h .0) (starts-below n R j c (h .2)) (h .1) in
+      omega (arith, held, sumTo-longer (level S P n) (suc (P i)) (P j) up, climb j c (h .2))
 
   -- so that no path weighs more than all levels
-  pub path-climbs : (c : List ℕ) → Path n R c → weight S c ≤ sumTo level top
+  pub path-climbs : (c : List ℕ) → Path n R c → weight S c ≤ levels S P n
   path-climbs [] h = omega arith
   path-climbs (i ∷ c) h = omega (arith, climb i c h)
 
@@ -55,19 +76,10 @@ related-rises rs rows i j t =
     let places : Bool = ltb i (taskCount rs) && ltb j (taskCount rs) in
     ltb-true (priorityAt rs i) (priorityAt rs j) (T-true lower (both lower (cell rows i j) (both places (lower && cell rows i j) t .1) .0))
 
--- a task's size is at most what its level holds, and its level is one of those added up
-pub size-in-level : (rs : List (List ℕ)) (i : ℕ) → i < taskCount rs
-    → (sizeAt rs i ≤ levelAt rs (priorityAt rs i)) × (priorityAt rs i < largestTo (priorityAt rs) (taskCount rs) + 1)
-size-in-level rs i h = (
-  rw (eq-eqb (priorityAt rs i) (priorityAt rs i) refl) at (largestTo-most (λ k. cond (eqb (priorityAt rs k) (priorityAt rs i)) (sizeAt rs k) 0) (taskCount rs) i h),
-  omega (arith, largestTo-most (priorityAt rs) (taskCount rs) i h),
-)
-
 -- no path weighs more than the levels
 pub path≤levels : (rs : List (List ℕ)) (rows c : List ℕ) → Path (taskCount rs) (related rs rows) c → weight (sizeAt rs) c ≤ levelBound rs
 path≤levels rs rows =
-    path-climbs (taskCount rs) (related rs rows) (sizeAt rs) (priorityAt rs) (levelAt rs)
-    (largestTo (priorityAt rs) (taskCount rs) + 1) (related-rises rs rows) (size-in-level rs)
+    path-climbs (taskCount rs) (related rs rows) (sizeAt rs) (priorityAt rs) (λ i j h k. related-rises rs rows i j)
 
 -- the tasks of a list that pass a test, in its order
 pub own : (ℕ → Bool) → List ℕ → List ℕ

@@ -1,5 +1,4 @@
 -- Each way out is one of the three answers of a bound call.
-use Rattle.stack.proofs.Readying.{few-read}
 use Prim.Native.Nat.{ℕ}
 use mathlib.Core.List.{map}
 use mathlib.Core.Bool.{true, false}
@@ -13,7 +12,7 @@ use Rattle.rules.specs.Refusals.{accepted, tableVerdict}
 use Rattle.rules.specs.Calls.{over, BoundCall, boundRefusal}
 use Rattle.preempt.proofs.Accepted.{shape}
 use Rattle.stack.proofs.Figures.{ids-same}
-use Rattle.stack.proofs.Readying.{ids-long, ids-small}
+use Rattle.stack.proofs.Readying.{few-read, ids-long, ids-small}
 use Rattle.stack.proofs.Calling.{by-table, by-short, answered, places-below}
 use native.Mathlib.Omega.{arith}
 use borrow.Author.Needs.{needs}
@@ -34,6 +33,11 @@ returns c =
     let wrong : accepted (tableVerdict image) ≡ false = subst (λ (v : Verdict). accepted v ≡ false) (c .before .before .before .table-verdict .ensures) (ne-eqb (c .before .before .before .table-verdict .result .number) 0 (c .before .if1 .taken)) in
     subst (λ (answer : Bounds). BoundCall image lent ids answer ids) (sym (c .refused .ensures ∙ ap boundRefusal (c .before .before .before .table-verdict .ensures))) (by-table image lent ids wrong)
 
+-- past the first test the table is accepted
+sound : (c : tie.Else1) → accepted (tableVerdict (c .before .before .before .before .before .before .args .image .now)) ≡ true
+sound c =
+    subst (λ (v : Verdict). accepted v ≡ true) (c .before .before .table-verdict .ensures) (eq-eqb (c .before .before .table-verdict .result .number) 0 (c .if1 .left))
+
 refused-requires-2 : tie.Need-refused-requires-2
 refused-requires-2 c κs = search needs
 
@@ -42,7 +46,7 @@ returns-2 c =
     let image = c .before .before .before .before .before .before .before .before .args .image .now in
     let lent = c .before .before .before .before .before .before .before .before .args .map .now in
     let ids = c .before .before .before .before .before .before .before .before .args .ids .now in
-    let right : accepted (tableVerdict image) ≡ true = subst (λ (v : Verdict). accepted v ≡ true) (c .before .before .before .before .table-verdict .ensures) (eq-eqb (c .before .before .before .before .table-verdict .result .number) 0 (c .before .before .if1 .left)) in
+    let right = sound (c .before .before) in
     subst (λ (answer : Bounds). BoundCall image lent ids answer ids) (sym (c .refused2 .ensures)) (by-short image lent ids right (rw (lt-ltb (length lent) 64 (c .before .if2 .taken))))
 
 refused-requires-3 : tie.Need-refused-requires-3
@@ -53,20 +57,14 @@ returns-3 c =
     let image = c .before .before .before .before .before .before .before .before .before .args .image .now in
     let lent = c .before .before .before .before .before .before .before .before .before .args .map .now in
     let ids = c .before .before .before .before .before .before .before .before .before .args .ids .now in
-    let right : accepted (tableVerdict image) ≡ true = subst (λ (v : Verdict). accepted v ≡ true) (c .before .before .before .before .before .table-verdict .ensures) (eq-eqb (c .before .before .before .before .before .table-verdict .result .number) 0 (c .before .before .before .if1 .left)) in
+    let right = sound (c .before .before .before) in
     subst (λ (answer : Bounds). BoundCall image lent ids answer ids) (sym (c .refused3 .ensures)) (by-short image lent ids right (rw (le-ltb (length lent) 64 (c .before .before .if2 .left), lt-ltb (length ids) 64 (c .before .if3 .taken))))
 
 read-tasks-requires : tie.Need-read-tasks-requires
-read-tasks-requires c κs =
-    let image = c .before .before .before .before .before .before .before .before .args .image .now in
-    let right : accepted (tableVerdict image) ≡ true = subst (λ (v : Verdict). accepted v ≡ true) (c .before .before .before .before .table-verdict .ensures) (eq-eqb (c .before .before .before .before .table-verdict .result .number) 0 (c .before .before .if1 .left)) in
-    right
+read-tasks-requires c κs = sound (c .before .before)
 
 find-requires : tie.Need-find-requires
-find-requires c κs =
-    let image = c .before .before .before .before .before .before .before .before .before .args .image .now in
-    let right : accepted (tableVerdict image) ≡ true = subst (λ (v : Verdict). accepted v ≡ true) (c .before .before .before .before .before .table-verdict .ensures) (eq-eqb (c .before .before .before .before .before .table-verdict .result .number) 0 (c .before .before .before .if1 .left)) in
-    (right, (c .read-tasks .ensures, c .before .before .if2 .left))
+find-requires c κs = (sound (c .before .before .before), (c .read-tasks .ensures, c .before .before .if2 .left))
 
 slice-aggregate-write-ids : tie.Need-slice-aggregate-write-ids
 slice-aggregate-write-ids c = search needs
@@ -76,7 +74,7 @@ write-ids-requires c κs =
     let image = c .before .before .before .before .before .before .before .before .before .before .before .before .before .before .args .image .now in
     let lent = c .before .before .before .before .before .before .before .before .before .before .before .before .before .before .args .map .now in
     let ids = c .before .before .before .before .before .before .before .before .before .before .before .before .before .before .args .ids .now in
-    let right : accepted (tableVerdict image) ≡ true = subst (λ (v : Verdict). accepted v ≡ true) (c .before .before .before .before .before .before .before .before .before .before .table-verdict .ensures) (eq-eqb (c .before .before .before .before .before .before .before .before .before .before .table-verdict .result .number) 0 (c .before .before .before .before .before .before .before .before .if1 .left)) in
+    let right = sound (c .before .before .before .before .before .before .before .before) in
     let known = c .before .before .before .before .before .before .before .before .before .before .before .before .before .shared-slice-known .given in
     let t = c .before .before .before .before .before .read-tasks .result in
     let read = c .before .before .before .before .before .read-tasks .ensures in
@@ -87,7 +85,7 @@ write-ids-requires c κs =
 cast-t17 : tie.Need-cast-t17
 cast-t17 c =
     let image = c .before .before .before .before .before .before .before .before .before .before .before .before .before .before .before .before .before .before .args .image .now in
-    let right : accepted (tableVerdict image) ≡ true = subst (λ (v : Verdict). accepted v ≡ true) (c .before .before .before .before .before .before .before .before .before .before .before .before .before .before .table-verdict .ensures) (eq-eqb (c .before .before .before .before .before .before .before .before .before .before .before .before .before .before .table-verdict .result .number) 0 (c .before .before .before .before .before .before .before .before .before .before .before .before .if1 .left)) in
+    let right = sound (c .before .before .before .before .before .before .before .before .before .before .before .before) in
     omega (arith, few-read image (c .before .before .before .before .before .before .before .before .before .before .before .before .before .before .before .before .before .shared-slice-known .given) right (c .before .before .before .before .before .before .before .before .before .read-tasks .result) (c .before .before .before .before .before .before .before .before .before .read-tasks .ensures))
 
 cast-t18 : tie.Need-cast-t18
@@ -101,7 +99,7 @@ returns-4 c =
     let image = c .before .before .before .before .before .before .before .before .before .before .before .before .before .before .before .before .before .before .args .image .now in
     let lent = c .before .before .before .before .before .before .before .before .before .before .before .before .before .before .before .before .before .before .args .map .now in
     let ids = c .before .before .before .before .before .before .before .before .before .before .before .before .before .before .before .before .before .before .args .ids .now in
-    let right : accepted (tableVerdict image) ≡ true = subst (λ (v : Verdict). accepted v ≡ true) (c .before .before .before .before .before .before .before .before .before .before .before .before .before .before .table-verdict .ensures) (eq-eqb (c .before .before .before .before .before .before .before .before .before .before .before .before .before .before .table-verdict .result .number) 0 (c .before .before .before .before .before .before .before .before .before .before .before .before .if1 .left)) in
+    let right = sound (c .before .before .before .before .before .before .before .before .before .before .before .before) in
     let known = c .before .before .before .before .before .before .before .before .before .before .before .before .before .before .before .before .before .shared-slice-known .given in
     let t = c .before .before .before .before .before .before .before .before .before .read-tasks .result in
     let read = c .before .before .before .before .before .before .before .before .before .read-tasks .ensures in
