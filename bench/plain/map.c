@@ -61,12 +61,10 @@ static uint32_t excess(uint32_t a, uint32_t b)
     return a < b ? 0 : a - b;
 }
 
-/* The distance from the more urgent task's offset to the less urgent one's, by equation (7). */
+/* The distance from the more urgent task's offset to the less urgent one's, by equation (7), of offsets below the period. */
 static uint32_t distance(uint32_t period, uint32_t lower, uint32_t upper)
 {
-    if (period == 0)
-        return lower;
-    return (uint32_t)(((uint64_t)lower + excess(period, upper)) % period);
+    return lower < upper ? period + lower - upper : lower - upper;
 }
 
 /* Whether the task at place i may be preempted by the one at place j, by equation (8). */

@@ -34,6 +34,20 @@ fn the_distance_never_goes_negative() {
 }
 
 #[test]
+fn the_distance_is_that_of_the_two_cases_of_the_paper() {
+    for period in 1..=12 {
+        for (to, from) in (0..period * period).map(|both| (both / period, both % period)) {
+            let psi = if to < from {
+                period + to - from
+            } else {
+                to - from
+            };
+            assert_eq!(distance(from, to, period), u64::from(psi));
+        }
+    }
+}
+
+#[test]
 fn a_path_is_no_chain() {
     let (bounds, _) = own_bounds(&figure2());
     assert_eq!((bounds.chain, bounds.path), (8, 10));

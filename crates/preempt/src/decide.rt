@@ -11,8 +11,30 @@ pub fn excess(a: u32, b: u32) -> u32
     if a < b { 0 } else { a - b }
 }
 
-// The distance from the more urgent task's offset to the less urgent one's, by equation (7).
+// The distance from the more urgent task's offset to the less urgent one's, by equation (7): the paper's psi, in the two cases of its proof of Lemma 2.
 pub fn distance(period: u32, lower: u32, upper: u32) -> u32
+    ensures { λ r. ⌜ r ≡ Preempt·distance period lower upper ⌝ }
+{
+    // The paper's T, O_i and O_j; T + O_i may need 33 bits.
+    let t = period as u64;
+    let o_i = lower as u64;
+    let o_j = upper as u64;
+    // Case 1: O_i < O_j
+    if o_i < o_j && o_j < t {
+        let psi = t + o_i - o_j;
+        return psi as u32;
+    }
+    // Case 2: O_i >= O_j
+    if o_i >= o_j && o_i < t {
+        let psi = o_i - o_j;
+        return psi as u32;
+    }
+    // Neither: an offset is not below the period, which no accepted table has.
+    shifted_remainder(period, lower, upper)
+}
+
+// Equation (7) for any three numbers, as it is defined: the remainder of the lower offset shifted by a period.
+fn shifted_remainder(period: u32, lower: u32, upper: u32) -> u32
     ensures { λ r. ⌜ r ≡ Preempt·distance period lower upper ⌝ }
 {
     if period == 0 {

@@ -1,47 +1,49 @@
--- With a period of 0 the remainder is the number itself; with any other it is below the period and so fits.
-use Prim.Native.Nat.{ℕ, _+_, _-_, _%_, _<_}
+-- In either case both offsets are below the period, and the distance is then that of the paper.
+use Prim.Native.Nat.{ℕ, _+_, _-_, _≤_, _<_}
 use mathlib.Core.Path.{_≡_, sym, _∙_}
-use native.Mathlib.Nat.{mod-zero, mod-lt}
 use native.Mathlib.Omega.{arith}
+use borrow.Author.Tests.{ltb-true}
 use borrow.Author.Needs.{needs}
-use mir.Val.{Fits}
-use mir.Syntax.{w32}
 use Rattle.rules.specs.Preempt.{distance}
+use Rattle.preempt.proofs.Paper.{distance-above, distance-below}
 use Rattle.preempt.proofs.decide.distance.Statement.{statement}
 use Rattle.preempt.proofs.decide.distance.Tie as tie
 
--- with a period of 0 the distance is the offset itself
-no-period : (period lower upper : ℕ) → period ≡ 0 → lower ≡ distance period lower upper
-no-period period lower upper e = rw e (sym (mod-zero (lower + (0 - upper)) ∙ omega arith))
+-- case 1: O_i < O_j, and psi is T + O_i - O_j
+case-1 : (t oi oj psi : ℕ) → oi < oj → oj < t → psi ≡ t + oi - oj → psi ≡ distance t oi oj
+case-1 t oi oj psi below inside is =
+    let e : psi ≡ t - (oj - oi) = omega arith in
+    e ∙ sym (distance-below t oi oj (omega arith) inside below)
 
--- with any other period the remainder fits, as the period does
-remainder-fits : (n period : ℕ) → Fits w32 period → (period ≡ 0 → ⊥) → Fits w32 (n % period)
-remainder-fits n period fits other =
-    let some : 0 < period = omega arith in
-    omega (arith, mod-lt n some)
+-- case 2: O_i >= O_j, and psi is O_i - O_j
+case-2 : (t oi oj psi : ℕ) → oj ≤ oi → oi < t → psi ≡ oi - oj → psi ≡ distance t oi oj
+case-2 t oi oj psi above inside is = is ∙ sym (distance-above t oi oj inside (omega arith) above)
 
-returns : tie.Need-returns
-returns c = no-period (c .before .args .period) (c .before .args .lower) (c .before .args .upper) (c .if1 .taken)
+add-psi : tie.Need-add-psi
+add-psi c = search needs
 
-excess-requires : tie.Need-excess-requires
-excess-requires c κs = search needs
-
-cast-shifted : tie.Need-cast-shifted
-cast-shifted c = search needs
-
-add-shifted : tie.Need-add-shifted
-add-shifted c = search needs
-
-rem-result : tie.Need-rem-result
-rem-result c = search needs
+sub-psi : tie.Need-sub-psi
+sub-psi c = omega (arith, ltb-true (c .before .before .args .upper) (c .before .before .args .period) (c .if2 .taken))
 
 cast-result : tie.Need-cast-result
-cast-result c = remainder-fits _ (c .before .before .args .period) (c .before .before .fits .period) (c .before .if1 .left)
+cast-result c = search needs
+
+returns : tie.Need-returns
+returns c = case-1 _ _ _ _ (omega arith) (ltb-true _ _ (c .if2 .taken)) (omega arith)
+
+cast-result-2 : tie.Need-cast-result-2
+cast-result-2 c = search needs
 
 returns-2 : tie.Need-returns-2
-returns-2 c = rw (c .excess .ensures)
+returns-2 c = case-2 _ _ _ _ (omega arith) (ltb-true _ _ (c .if4 .taken)) (omega arith)
+
+shifted-remainder-requires : tie.Need-shifted-remainder-requires
+shifted-remainder-requires c κs = search needs
+
+returns-3 : tie.Need-returns-3
+returns-3 c = c .shifted-remainder .ensures
 
 pub distance-spec : {M : Type 1} → statement M
 distance-spec =
     tie.close
-    (tie.spec returns excess-requires cast-shifted add-shifted rem-result cast-result returns-2)
+    (tie.spec add-psi sub-psi cast-result returns cast-result-2 returns-2 shifted-remainder-requires returns-3)
