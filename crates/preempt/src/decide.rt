@@ -33,7 +33,7 @@ pub fn distance(period: u32, lower: u32, upper: u32) -> u32
     shifted_remainder(period, lower, upper)
 }
 
-// Equation (7) for any three numbers, as it is defined: the remainder of the lower offset shifted by a period.
+// Equation (7) for any three numbers, as it is defined: the lower offset and what the upper one leaves of a period, modulo the period.
 fn shifted_remainder(period: u32, lower: u32, upper: u32) -> u32
     ensures { λ r. ⌜ r ≡ Preempt·distance period lower upper ⌝ }
 {

@@ -19,17 +19,21 @@ case-1 t oi oj psi below inside is =
 case-2 : (t oi oj psi : ℕ) → oj ≤ oi → oi < t → psi ≡ oi - oj → psi ≡ distance t oi oj
 case-2 t oi oj psi above inside is = is ∙ sym (distance-above t oi oj inside (omega arith) above)
 
+-- in case 1 the larger offset is below the period
+inside : (c : tie.Then2) → c .before .before .args .upper < c .before .before .args .period
+inside c = ltb-true _ _ (c .if2 .taken)
+
 add-psi : tie.Need-add-psi
 add-psi c = search needs
 
 sub-psi : tie.Need-sub-psi
-sub-psi c = omega (arith, ltb-true (c .before .before .args .upper) (c .before .before .args .period) (c .if2 .taken))
+sub-psi c = omega (arith, inside c)
 
 cast-result : tie.Need-cast-result
 cast-result c = search needs
 
 returns : tie.Need-returns
-returns c = case-1 _ _ _ _ (omega arith) (ltb-true _ _ (c .if2 .taken)) (omega arith)
+returns c = case-1 _ _ _ _ (omega arith) (inside c) (omega (arith, inside c))
 
 cast-result-2 : tie.Need-cast-result-2
 cast-result-2 c = search needs
