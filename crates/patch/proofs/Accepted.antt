@@ -12,11 +12,11 @@ use Rattle.rules.specs.Numbers.{Bytes, lowest, sumTo, countTo, between}
 use Rattle.rules.specs.Blocks.{records, recordAt, recordCount}
 use Rattle.rules.specs.Records.{kindOf, wayOf, key, imageKey, zeroBytes, formWrong, mostOf, countOf, tooMany}
 use Rattle.rules.specs.declared.Verdict.{Verdict}
-use Rattle.rules.specs.Refusals.{accepted, orElse, refuseIf, orderWrong, formRefusal, orderRefusal, rangeRefusal, countRefusal, referenceRefusal, frameVerdict, recordsVerdict, tableVerdict, patchVerdict}
+use Rattle.rules.specs.Refusals.{accepted, orElse, refuseIf, orderWrong, formRefusal, orderRefusal, rangeRefusal, countRefusal, frameVerdict, recordsVerdict, tableVerdict, patchVerdict}
 use Rattle.rules.proofs.Numbers.{either, length-upTo, getD-upTo, lowest-passes, lowest-below}
 use Rattle.rules.proofs.Tests.{neither-first, neither-second}
 use Rattle.rules.proofs.Refusals.{accepted-first, accepted-second, no-fault, no-fault-at}
-use Rattle.rules.proofs.Image.Frame.{frame-of}
+use Rattle.rules.proofs.Image.Frame.{frame-accepted, frame-of}
 use Rattle.rules.proofs.Table.Ranges.{le2-small, between-least, between-most}
 use Rattle.rules.proofs.Table.Order.{Rises, rises-of-next, order-right}
 use Rattle.rules.proofs.Table.Shape.{records-bytes}
@@ -54,9 +54,8 @@ known-patch-kind r right =
 
 -- an accepted table has at most 23 blocks
 pub table-long : (image : List ℕ) → accepted (tableVerdict image) ≡ true → length image ≤ 11776
-unfolding tableVerdict
 table-long image table =
-    let f = frame-of Table image (accepted-first (frameVerdict Table image) (orElse (recordsVerdict Table (records image)) (referenceRefusal (records image))) table) in
+    let f = frame-of Table image (frame-accepted Table image table) in
     omega (arith, f .whole, f .not-too-many)
 
 -- the records of an accepted table are in the image's order
@@ -69,8 +68,7 @@ base-rises base table =
 module _ (patch : List ℕ) (right : accepted (patchVerdict patch) ≡ true) where
   -- its frame is right
   pub patch-frame : accepted (frameVerdict Patch patch) ≡ true
-  unfolding patchVerdict
-  patch-frame = accepted-first (frameVerdict Patch patch) (recordsVerdict Patch (records patch)) right
+  patch-frame = frame-accepted Patch patch right
 
   -- its records are in the image's order
   pub patch-rises : Rises imageKey (records patch)

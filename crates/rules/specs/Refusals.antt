@@ -94,6 +94,11 @@ tableVerdict image =
 unfoldable pub patchVerdict : List ℕ → Verdict
 patchVerdict image = orElse (frameVerdict Patch image) (recordsVerdict Patch (records image))
 
+-- either of them, by the form
+abbrev pub imageVerdict : Form → List ℕ → Verdict
+imageVerdict Table image = tableVerdict image
+imageVerdict Patch image = patchVerdict image
+
 -- 9: a record to take out is not in the base, byte for byte, place the patch record
 abbrev pub absentRefusal : List (List ℕ) → List (List ℕ) → Verdict
 absentRefusal base patch =

@@ -18,7 +18,7 @@ use Rattle.rules.proofs.Table.Kinds.{Grouped, length-ofKind}
 use Rattle.rules.proofs.Table.Order.{kind-rises}
 use Rattle.rules.proofs.Table.Shape.{shape-of, records-bytes}
 use Rattle.rules.proofs.Blocks.{mostBlocks-most}
-use Rattle.rules.proofs.Image.Frame.{frame-of, records-fit}
+use Rattle.rules.proofs.Image.Frame.{frame-accepted, frame-of, records-fit}
 use Rattle.rules.specs.Records.{kindOf, wayOf, ofKind, countOf, mostOf, tooMany}
 use Rattle.rules.proofs.Numbers.{either, sumTo-ext}
 use Rattle.image.specs.Held.{HoldsRecords}
@@ -92,16 +92,11 @@ records-held form image a = records-fit form image (frame-of form image a)
 
 -- so does an accepted table
 pub table-held : (image : List ℕ) → accepted (tableVerdict image) ≡ true → HoldsRecords image
-unfolding tableVerdict
-table-held image table =
-    records-held Table image
-    (accepted-first (frameVerdict Table image) (orElse (recordsVerdict Table (records image)) (referenceRefusal (records image))) table)
+table-held image table = records-held Table image (frame-accepted Table image table)
 
 -- and an accepted patch
 pub patch-held : (image : List ℕ) → accepted (patchVerdict image) ≡ true → HoldsRecords image
-unfolding patchVerdict
-patch-held image patch =
-    records-held Patch image (accepted-first (frameVerdict Patch image) (recordsVerdict Patch (records image)) patch)
+patch-held image patch = records-held Patch image (frame-accepted Patch image patch)
 
 -- the records of an accepted table are accepted
 pub records-accepted : (image : List ℕ) → accepted (tableVerdict image) ≡ true → accepted (recordsVerdict Table (records image)) ≡ true

@@ -10,9 +10,10 @@ use lib.ListN.{length, getD, take, drop, length-take, length-drop}
 use lib.Seq.{getD-take, getD-drop, drop-drop}
 use lib.Dec.{eqb, ltb, leb}
 use Rattle.rules.specs.declared.Form.{Form}
+use Rattle.rules.specs.declared.Form.the-variants.{Table, Patch}
 use Rattle.rules.specs.Numbers.{blank}
 use Rattle.rules.specs.Blocks.{mark, mostBlocks, blockCount, blockAt, lengthWrong, checkWrong, countRight, markWrong, headerWrong, recordStart, recordAt, recordCount, records, blocksFor}
-use Rattle.rules.specs.Refusals.{accepted, fine, frameVerdict, lengthRefusal, checkRefusal, headerRefusal, orElse, numbered}
+use Rattle.rules.specs.Refusals.{accepted, fine, frameVerdict, lengthRefusal, checkRefusal, headerRefusal, orElse, numbered, recordsVerdict, referenceRefusal, tableVerdict, patchVerdict, imageVerdict}
 use Rattle.rules.proofs.Numbers.{either}
 use Rattle.rules.proofs.Image.Parts.{Records, sized-upTo, part-front}
 use Rattle.rules.proofs.Bytes.{blank-zero, blank-true}
@@ -101,6 +102,13 @@ unfolding frameVerdict
 length-right form image h =
     no-fault (numbered form 1) 0 (lengthWrong form image) (numbered-some form 1 (omega arith))
     (accepted-first (lengthRefusal form image) (orElse (checkRefusal form image) (headerRefusal form image)) h)
+
+-- an accepted table or patch has an accepted frame
+pub frame-accepted : (form : Form) (image : List ℕ) → accepted (imageVerdict form image) ≡ true → accepted (frameVerdict form image) ≡ true
+unfolding tableVerdict patchVerdict
+frame-accepted Table image h =
+    accepted-first (frameVerdict Table image) (orElse (recordsVerdict Table (records image)) (referenceRefusal (records image))) h
+frame-accepted Patch image h = accepted-first (frameVerdict Patch image) (recordsVerdict Patch (records image)) h
 
 -- an accepted image has this frame
 pub frame-of : (form : Form) (image : List ℕ) → accepted (frameVerdict form image) ≡ true → Frame form image

@@ -14,7 +14,7 @@ use Rattle.rules.specs.Refusals.{accepted, orElse, formRefusal, orderWro
 use Rattle.rules.proofs.Numbers.{either, never}
 use Rattle.rules.proofs.Refusals.{accepted-first, accepted-second, no-fault-at}
 use Rattle.rules.proofs.Image.Parts.{Records}
-use Rattle.rules.proofs.Image.Frame.{frame-of, records-sized}
+use Rattle.rules.proofs.Image.Frame.{frame-accepted, frame-of, records-sized}
 use Rattle.rules.proofs.Patch.Members.{has-each, outcome-each}
 use Rattle.rules.proofs.Patch.PutIn.{put-form, put-range}
 use Rattle.rules.proofs.Patch.Valid.{Valid, valid-of, valid-few, table-of-valid, valid-not-broken, valid-imageOf}
@@ -30,12 +30,11 @@ pub well-formed-of : (patch : List ℕ) → accepted (patchVerdict patch) ≡ tr
 unfolding patchVerdict recordsVerdict
 well-formed-of patch h =
     let ps = records patch in
-    let frame = accepted-first (frameVerdict Patch patch) (recordsVerdict Patch ps) h in
     let rest = accepted-second (frameVerdict Patch patch) (recordsVerdict Patch ps) h in
     let rest′ = accepted-second (formRefusal Patch ps) (orElse (orderRefusal Patch ps) (orElse (rangeRefusal Patch ps) (countRefusal Patch ps))) rest in
     let rest″ = accepted-second (orderRefusal Patch ps) (orElse (rangeRefusal Patch ps) (countRefusal Patch ps)) rest′ in
     record {
-      sized = records-sized Patch patch (frame-of Patch patch frame);
+      sized = records-sized Patch patch (frame-of Patch patch (frame-accepted Patch patch h));
       forms = no-fault-at 24 (λ k. formWrong Patch (getD ps k [])) (length ps) (omega arith) (accepted-first (formRefusal Patch ps) _ rest);
       ranges = no-fault-at 26 (λ k. rangeWrong (getD ps k [])) (length ps) (omega arith) (accepted-first (rangeRefusal Patch ps) _ rest″);
     }

@@ -15,14 +15,14 @@ use Rattle.rules.specs.Blocks.{records, imageOf}
 use Rattle.rules.specs.Records.{taskCount}
 use Rattle.rules.specs.Preempt.{decided, mapOf}
 use Rattle.rules.specs.Patches.{outcome, patchedMap}
-use Rattle.rules.specs.Refusals.{accepted, orElse, frameVerdict, recordsVerdict, referenceRefusal, tableVerdict, patchVerdict, absentRefusal}
+use Rattle.rules.specs.Refusals.{accepted, tableVerdict, patchVerdict, absentRefusal}
 use Rattle.rules.specs.Calls.{over, patchCallVerdict, BoundCall}
 use Rattle.rules.specs.Runs.{Step, State, called, calls, afresh, acceptable, afreshAfter, Demand3}
 use Rattle.rules.proofs.Numbers.{either}
 use Rattle.rules.proofs.Tests.{both-first, both-second}
-use Rattle.rules.proofs.Refusals.{accepted-first}
 use Rattle.rules.proofs.Maps.{map-length}
 use Rattle.rules.proofs.Image.Parts.{Records}
+use Rattle.rules.proofs.Image.Frame.{frame-accepted}
 use Rattle.rules.proofs.Image.Written.{length-imageOf, records-imageOf}
 use Rattle.rules.proofs.Image.Read.{imageOf-records}
 use Rattle.rules.proofs.FourBounds.Unique.{bound-call-determined}
@@ -170,10 +170,8 @@ true-long rs rows right =
 
 -- demand 3: of a valid table, its true map and any run of patches, the calls give what working it out afresh gives
 pub demand3 : (image rows : List ℕ) (ps : List Step) → Demand3 image rows ps
-unfolding tableVerdict
 demand3 image rows ps bytes table right =
-    let frame = accepted-first (frameVerdict Table image) (orElse (recordsVerdict Table (records image)) (referenceRefusal (records image))) table in
-    let same : image ≡ imageOf Table (records image) = sym (imageOf-records Table image bytes frame) in
+    let same : image ≡ imageOf Table (records image) = sym (imageOf-records Table image bytes (frame-accepted Table image table)) in
     let start : record { image = image; rows = rows } ≡ afresh (records image) rows = λ i. record { image = same i; rows = right i } in
     ap (λ (s : State). calls s ps) start ∙ run-afresh (records image) rows ps (valid-of image table) (true-long (records image) rows right)
 

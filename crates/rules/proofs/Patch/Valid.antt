@@ -12,7 +12,7 @@ use Rattle.rules.specs.Records.{numberOf, key, formWrong, rangeWrong, to
 use Rattle.rules.specs.Refusals.{accepted, fine, orElse, refuseIf, formRefusal, orderWrong, orderRefusal, rangeRefusal, countRefusal, referenceRefusal, frameVerdict, recordsVerdict, tableVerdict, broken}
 use Rattle.rules.proofs.Refusals.{accepted-first, accepted-second, fine-both, fine-at, accepted-if, accepted-at}
 use Rattle.rules.proofs.Image.Parts.{Records}
-use Rattle.rules.proofs.Image.Frame.{frame-of, records-sized}
+use Rattle.rules.proofs.Image.Frame.{frame-accepted, frame-of, records-sized}
 use Rattle.rules.proofs.Image.Written.{frame-imageOf, records-imageOf}
 use Rattle.rules.proofs.Table.Kinds.{length-kinds}
 use Rattle.rules.proofs.Table.Order.{Rises, numbers-rise}
@@ -28,10 +28,9 @@ pub record Valid (rs : List (List ℕ)) : Type 0 where
 pub valid-of : (image : List ℕ) → accepted (tableVerdict image) ≡ true → Valid (records image)
 unfolding tableVerdict
 valid-of image h =
-    let frame = accepted-first (frameVerdict Table image) (orElse (recordsVerdict Table (records image)) (referenceRefusal (records image))) h in
     let rest = accepted-second (frameVerdict Table image) (orElse (recordsVerdict Table (records image)) (referenceRefusal (records image))) h in
     record {
-      sized = records-sized Table image (frame-of Table image frame);
+      sized = records-sized Table image (frame-of Table image (frame-accepted Table image h));
       faultless = faultless-of (records image) (accepted-first (recordsVerdict Table (records image)) (referenceRefusal (records image)) rest);
       references = accepted-second (recordsVerdict Table (records image)) (referenceRefusal (records image)) rest;
     }

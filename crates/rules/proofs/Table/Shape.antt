@@ -5,7 +5,7 @@ use mathlib.Core.Bool.{true, false, not}
 use mathlib.Core.Path.{_≡_}
 use native.Mathlib.Omega.{arith}
 use borrow.Author.Tests.{ltb-true, ltb-false, not-false}
-use lib.ListN.{length, getD, length-take, List·getD-eq-default}
+use lib.ListN.{length, getD, List·getD-eq-default}
 use lib.Dec.{ltb}
 use Rattle.rules.specs.declared.Form.the-variants.{Table}
 use Rattle.rules.specs.declared.Verdict.{Verdict}
@@ -14,7 +14,7 @@ use Rattle.rules.specs.Blocks.{recordStart, recordAt, recordCount, recor
 use Rattle.rules.specs.Records.{ofKind, kindOf, numberOf, wayOf, key, imageKey, mostOf, zeroBytes, formWrong, rangeWrong, transactionRight, taskRight, pairRight, transactions, tasks, pairs, taskCount, countOf, tooMany}
 use Rattle.rules.specs.Refusals.{accepted, orElse, refuseIf, formRefusal, orderWrong, orderRefusal, rangeRefusal, countRefusal, recordsVerdict}
 use Rattle.rules.proofs.Numbers.{either, length-upTo, getD-upTo}
-use Rattle.rules.proofs.Bytes.{getD-part}
+use Rattle.rules.proofs.Bytes.{part-bytes}
 use Rattle.rules.proofs.Tests.{neither-first, neither-second}
 use Rattle.rules.proofs.Refusals.{accepted-first, accepted-second, no-fault, no-fault-at}
 use Rattle.rules.proofs.Table.Kinds.{Known, Grouped, Split, split-of, length-split, transaction-at, task-at, pair-at, transaction-kind, task-kind, pair-kind, count-ofKind, ofKind-all}
@@ -187,12 +187,7 @@ shape-of-records rs bytes h = shape-of-faultless rs bytes (faultless-of rs h)
 
 -- each record of an image of bytes is of bytes
 pub record-bytes : (image : List ℕ) → Bytes image → (k : ℕ) → Bytes (recordAt image k)
-record-bytes image bytes k j =
-    either (ltb j 32)
-    (λ t. rw (getD-part image (recordStart k) 32 j (ltb-true j 32 t)) (bytes (recordStart k + j)))
-    (λ t.
-    let past : length (recordAt image k) ≤ j = simp length-take (omega (arith, ltb-false j 32 t)) in
-    omega (arith, List·getD-eq-default (recordAt image k) 0 past))
+record-bytes image bytes k = part-bytes image (recordStart k) 32 bytes
 
 -- so are those of the list of its records, also past its end
 pub records-bytes : (image : List ℕ) → Bytes image → (k : ℕ) → Bytes (getD (records image) k [])
