@@ -11,3 +11,4 @@ pub mod Patch
 pub mod FourBounds
 pub mod Enumerate
 pub mod Cases
+pub mod Cable

@@ -274,6 +274,20 @@ unfolding sumTo
 sumTo-both f g zero = refl
 sumTo-both f g (suc n) = omega (arith, sumTo-both f g n)
 
+-- a sum of which one number is exchanged for another
+pub sumTo-changed : (f g : ℕ → ℕ) (n k : ℕ) → k < n → ((i : ℕ) → (i ≡ k → ⊥) → g i ≡ f i)
+    → sumTo g n + f k ≡ sumTo f n + g k
+unfolding sumTo
+sumTo-changed f g zero k h others = absurd (omega arith)
+sumTo-changed f g (suc n) k h others =
+    either (ltb k n)
+    (λ t.
+    let below = ltb-true k n t in
+    omega (arith, sumTo-changed f g n k below others, others n (λ e. omega arith)))
+    (λ t.
+    let e : n ≡ k = omega (arith, ltb-false k n t) in
+    rw (e, sumTo-ext g f k (λ i l. others i (λ at-k. omega arith))) (omega arith))
+
 -- what counts for at most one of the numbers counts at most once
 pub sumTo-once : (test : ℕ → Bool) (x n : ℕ) → ((t u : ℕ) → t < n → u < n → test t ≡ true → test u ≡ true → t ≡ u)
     → sumTo (λ t. cond (test t) x 0) n ≤ x

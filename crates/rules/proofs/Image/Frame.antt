@@ -97,7 +97,7 @@ pub record Frame (form : Form) (image : List ℕ) : Type 0 where
   pub headers : (b : ℕ) → b < blockCount image → Header form (blockCount image) b (blockAt image b)
 
 -- the length of an accepted image is right
-length-right : (form : Form) (image : List ℕ) → accepted (frameVerdict form image) ≡ true → lengthWrong form image ≡ false
+pub length-right : (form : Form) (image : List ℕ) → accepted (frameVerdict form image) ≡ true → lengthWrong form image ≡ false
 unfolding frameVerdict
 length-right form image h =
     no-fault (numbered form 1) 0 (lengthWrong form image) (numbered-some form 1 (omega arith))
