@@ -34,6 +34,9 @@
  *   11      a lent map or room is too short                                         0
  *   21-27   1 to 7 for a patch: 23,040 bytes at most (21); byte 31 of a record
  *           neither 0 nor 1 (24); too many taken out, or too many put in (27)       as for 1 to 7
+ *
+ * An accepted image with one byte changed, or with two unequal neighbours among the first 510 bytes of a block changed
+ * over, is refusal 2 at that block, and 22 for a patch on an accepted base. Two changes in one block can cancel.
  */
 #ifndef SIODLOMIL_H
 #define SIODLOMIL_H

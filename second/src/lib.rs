@@ -11,6 +11,7 @@ pub mod blocks;
 pub mod bound_call;
 pub mod bounds;
 pub mod bytes;
+pub mod cable;
 pub mod chain;
 pub mod digest;
 pub mod figure2;

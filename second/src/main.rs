@@ -7,6 +7,7 @@ use std::process::ExitCode;
 
 use second::answer::answer;
 use second::blocks::{image_of, Form, BLOCK_BYTES};
+use second::cable::cancelled;
 use second::figure2::figure2;
 use second::generate::{write_stream, Wanted};
 use second::heaviest::heaviest;
@@ -18,7 +19,7 @@ use second::table::Table;
 
 const USAGE: &str =
     "usage: second bounds | generate SEED LETTERS COUNT | answer | sorts | figure2 \
-                     | heaviest | patch NUMBER | case NUMBER \
+                     | heaviest | cancelled | patch NUMBER | case NUMBER \
                      (LETTERS are some of T, P, M, B, A, R and L; NUMBER is 11, 12 or 13)";
 
 /// What the command line asks for.
@@ -32,7 +33,7 @@ enum Command {
     Answer,
     Sorts,
     Table(Table),
-    Patch(Vec<u8>),
+    Image(Vec<u8>),
     Runs(Vec<Case>),
 }
 
@@ -60,7 +61,8 @@ fn command_from(words: &[&str]) -> Option<Command> {
         ["sorts"] => Some(Command::Sorts),
         ["figure2"] => Some(Command::Table(figure2())),
         ["heaviest"] => Some(Command::Table(heaviest())),
-        ["patch", number] => patch_of(number.parse().ok()?).map(Command::Patch),
+        ["cancelled"] => Some(Command::Image(cancelled())),
+        ["patch", number] => patch_of(number.parse().ok()?).map(Command::Image),
         ["case", number] => runs_of(number.parse().ok()?).map(Command::Runs),
         ["generate", seed, letters, count] => Some(Command::Generate {
             seed: seed.parse().ok()?,
@@ -90,7 +92,7 @@ fn run(command: Command) -> io::Result<()> {
         Command::Answer => answer_all(&mut input, &mut output)?,
         Command::Sorts => output.write_all(sorts_in(&mut input)?.lines().as_bytes())?,
         Command::Table(table) => output.write_all(&image_of(Form::Table, &table.records()))?,
-        Command::Patch(patch) => output.write_all(&patch)?,
+        Command::Image(image) => output.write_all(&image)?,
         Command::Runs(runs) => runs.iter().try_for_each(|run| run.write(&mut output))?,
     }
     output.flush()

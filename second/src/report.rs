@@ -14,7 +14,8 @@ pub fn report(image: &[u8]) -> String {
     }
 }
 
-fn bounds_with_own_map(image: &[u8], ids: &mut [u16]) -> Result<Bounds, Refusal> {
+/// The bounds of an image with its own map, with the chain's ids written, or its refusal.
+pub fn bounds_with_own_map(image: &[u8], ids: &mut [u16]) -> Result<Bounds, Refusal> {
     let mut map = [0; MAP_ROWS];
     map_call(image, &mut map)?;
     bound_call(image, &map, ids)

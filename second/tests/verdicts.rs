@@ -11,23 +11,7 @@ use second::generate::tables::{any_table, fullest_table};
 use second::map_call::map_call;
 use second::records::{Record, Transaction, PUT_IN};
 use second::table::Table;
-use second::verdict::{records_of_patch, records_of_table};
-
-/// Number and place of an image as a table.
-fn as_table(image: &[u8]) -> (u32, usize) {
-    match records_of_table(image) {
-        Ok(_) => (0, 0),
-        Err(refusal) => (refusal.number, refusal.place),
-    }
-}
-
-/// Number and place of an image as a patch.
-fn as_patch(image: &[u8]) -> (u32, usize) {
-    match records_of_patch(image) {
-        Ok(_) => (0, 0),
-        Err(refusal) => (refusal.number, refusal.place),
-    }
-}
+use second::verdict::records_of_table;
 
 /// Number and place of a table of these records.
 fn of_records(records: &[Record]) -> (u32, usize) {

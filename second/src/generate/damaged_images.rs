@@ -43,7 +43,10 @@ fn with_other_damage(random: &mut Random, form: Form) -> Vec<u8> {
         }
         10 | 11 => damage_length(random, form, &mut image),
         12 => image = image_of(form.other(), &records),
-        13 => flip_a_byte(random, &mut image),
+        13 => match random.one_in(2) {
+            true => flip_a_byte(random, &mut image),
+            false => change_neighbours_over(random, &mut image),
+        },
         14 => {
             flip_a_byte(random, &mut image);
             mend_checks(&mut image);
@@ -84,6 +87,12 @@ pub fn sound_records(random: &mut Random, form: Form) -> Vec<Record> {
 fn flip_a_byte(random: &mut Random, image: &mut [u8]) {
     let at = random.rank(image.len());
     image[at] ^= random.byte_above_zero();
+}
+
+/// Changes two neighbouring bytes of the image over with each other.
+fn change_neighbours_over(random: &mut Random, image: &mut [u8]) {
+    let at = random.rank(image.len() - 1);
+    image.swap(at, at + 1);
 }
 
 /// Pure noise, or an image whose check is stored with the modulus added.

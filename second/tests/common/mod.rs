@@ -8,7 +8,7 @@ use second::patch_call::{patch_call, Patched};
 use second::preempt::true_map;
 use second::records::{Pair, PairSort, Task, Transaction};
 use second::table::Table;
-use second::verdict::Refusal;
+use second::verdict::{records_of_patch, records_of_table, Refusal};
 
 /// The period of every transaction in the numbered cases.
 pub const PERIOD: u32 = 10_000;
@@ -60,6 +60,22 @@ pub fn precedence(first: u16, second: u16) -> Pair {
 /// The image of a table.
 pub fn table_image(table: &Table) -> Vec<u8> {
     image_of(Form::Table, &table.records())
+}
+
+/// Number and place of an image as a table.
+pub fn as_table(image: &[u8]) -> (u32, usize) {
+    match records_of_table(image) {
+        Ok(_) => (0, 0),
+        Err(refusal) => (refusal.number, refusal.place),
+    }
+}
+
+/// Number and place of an image as a patch.
+pub fn as_patch(image: &[u8]) -> (u32, usize) {
+    match records_of_patch(image) {
+        Ok(_) => (0, 0),
+        Err(refusal) => (refusal.number, refusal.place),
+    }
 }
 
 /// The bounds of a table with this map, and the chain's ids.
