@@ -17,7 +17,7 @@ use Rattle.rules.specs.Cable.{changedOver}
 use Rattle.rules.proofs.Numbers.{either, lowest-none, lowest-here}
 use Rattle.rules.proofs.Bytes.{part-bytes}
 use Rattle.rules.proofs.Refusals.{numbered-some, fine-if, refuseAt-found, orElse-refusal}
-use Rattle.rules.proofs.Image.Frame.{length-right, frame-of, byte-of-block}
+use Rattle.rules.proofs.Image.Frame.{length-accepted, frame-of, byte-of-block}
 use Rattle.rules.proofs.Cable.Check.{byte-changed, neighbours-changed}
 
 -- byte k of block b exchanged for v: the block has that store, and every other block is as it was
@@ -99,7 +99,7 @@ pub frame-refused : (form : Form) (image later : List ℕ) (b : ℕ) → accepte
 unfolding frameVerdict
 frame-refused form image later b right inside one =
     let later-inside : b < blockCount later = rw (one .long) inside in
-    let length-fine : lengthRefusal form later ≡ fine = fine-if (numbered form 1) 0 (lengthWrong form later) (rw (one .long) (length-right form image right)) in
+    let length-fine : lengthRefusal form later ≡ fine = fine-if (numbered form 1) 0 (lengthWrong form later) (rw (one .long) (length-accepted form image right)) in
     let before = lowest-none (λ c. checkWrong (blockAt later c)) b (λ c l. rw (one .others c (λ e. omega arith)) (frame-of form image right .checks c (omega arith))) in
     let first = lowest-here (λ c. checkWrong (blockAt later c)) b (blockCount later) before (one .wrong) later-inside in
     rw (length-fine, refuseAt-found (numbered form 2) (λ c. checkWrong (blockAt later c)) (blockCount later) b first later-inside)

@@ -5,7 +5,7 @@ use mathlib.Core.Bool.{true, false, _||_, not}
 use mathlib.Core.Path.{_≡_}
 use native.Mathlib.Nat.{add-assoc}
 use native.Mathlib.Omega.{arith}
-use borrow.Author.Tests.{eqb-true, eqb-false, ne-eqb, ltb-true, ltb-false, le-ltb, leb-true, not-false}
+use borrow.Author.Tests.{eqb-true, ne-eqb, ltb-true, ltb-false, le-ltb, leb-true, not-false}
 use lib.ListN.{length, getD, take, drop, length-take, length-drop}
 use lib.Seq.{getD-take, getD-drop, drop-drop}
 use lib.Dec.{eqb, ltb, leb}
@@ -15,6 +15,7 @@ use Rattle.rules.specs.Numbers.{blank}
 use Rattle.rules.specs.Blocks.{mark, mostBlocks, blockCount, blockAt, lengthWrong, checkWrong, countRight, markWrong, headerWrong, recordStart, recordAt, recordCount, records, blocksFor}
 use Rattle.rules.specs.Refusals.{accepted, fine, frameVerdict, lengthRefusal, checkRefusal, headerRefusal, orElse, numbered, recordsVerdict, referenceRefusal, tableVerdict, patchVerdict, imageVerdict}
 use Rattle.rules.proofs.Numbers.{either}
+use Rattle.rules.proofs.Blocks.{length-right}
 use Rattle.rules.proofs.Image.Parts.{Records, sized-upTo, part-front}
 use Rattle.rules.proofs.Bytes.{blank-zero, blank-true}
 use Rattle.rules.proofs.Tests.{neither-first, neither-second, neither, both-first, both-second, not-fails, same-numbers, not-different}
@@ -97,9 +98,9 @@ pub record Frame (form : Form) (image : List ℕ) : Type 0 where
   pub headers : (b : ℕ) → b < blockCount image → Header form (blockCount image) b (blockAt image b)
 
 -- the length of an accepted image is right
-pub length-right : (form : Form) (image : List ℕ) → accepted (frameVerdict form image) ≡ true → lengthWrong form image ≡ false
+pub length-accepted : (form : Form) (image : List ℕ) → accepted (frameVerdict form image) ≡ true → lengthWrong form image ≡ false
 unfolding frameVerdict
-length-right form image h =
+length-accepted form image h =
     no-fault (numbered form 1) 0 (lengthWrong form image) (numbered-some form 1 (omega arith))
     (accepted-first (lengthRefusal form image) (orElse (checkRefusal form image) (headerRefusal form image)) h)
 
@@ -116,15 +117,11 @@ unfolding frameVerdict
 frame-of form image h =
     let number : (n : ℕ) → 0 < n → 0 < numbered form n = numbered-some form in
     let rest = accepted-second (lengthRefusal form image) (orElse (checkRefusal form image) (headerRefusal form image)) h in
-    let right = length-right form image h in
-    let empty = neither-first (eqb (length image) 0) _ right in
-    let row = neither-second (eqb (length image) 0) _ right in
-    let whole-blocks = same-numbers (length image % 512) 0 (neither-first _ _ row) in
-    let few = neither-second (not (eqb (length image % 512) 0)) _ row in
+    let right = length-right form image (length-accepted form image h) in
     record {
-      whole = omega arith;
-      some-block = omega (arith, eqb-false (length image) 0 empty);
-      not-too-many = ltb-false (mostBlocks form) (blockCount image) few;
+      whole = right .whole;
+      some-block = right .some-block;
+      not-too-many = right .few;
       checks =
           no-fault-at (numbered form 2) (λ b. checkWrong (blockAt image b)) (blockCount image) (number 2 (omega arith))
           (accepted-first (checkRefusal form image) (headerRefusal form image) rest);
