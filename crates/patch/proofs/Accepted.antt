@@ -66,10 +66,6 @@ base-rises base table =
 
 -- an accepted patch
 module _ (patch : List ℕ) (right : accepted (patchVerdict patch) ≡ true) where
-  -- its frame is right
-  pub patch-frame : accepted (frameVerdict Patch patch) ≡ true
-  patch-frame = frame-accepted Patch patch right
-
   -- its records are in the image's order
   pub patch-rises : Rises imageKey (records patch)
   unfolding patchVerdict recordsVerdict

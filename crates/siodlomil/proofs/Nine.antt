@@ -16,8 +16,8 @@ use Rattle.rules.specs.Records.{formWrong, rangeWrong, tooMany, referenceWrong,
 use Rattle.rules.specs.Patches.{has}
 use Rattle.rules.specs.Refusals.{accepted, refuseIf, refuseAt, orElse, numbered, orderWrong, lengthRefusal, checkRefusal, headerRefusal, formRefusal, orderRefusal, rangeRefusal, countRefusal, referenceRefusal, frameVerdict, recordsVerdict, tableVerdict, patchVerdict, absentRefusal}
 use Rattle.rules.proofs.Numbers.{either, never}
-use Rattle.rules.proofs.Image.Frame.{frame-of, record-fits}
-use Rattle.patch.proofs.Accepted.{as-many, patch-frame}
+use Rattle.rules.proofs.Image.Frame.{frame-accepted, frame-of, record-fits}
+use Rattle.patch.proofs.Accepted.{as-many}
 use Rattle.patch.proofs.Calling.{bothVerdict}
 
 -- a verdict that is no refusal 9
@@ -101,6 +101,6 @@ nine-inside base patch h =
     let right = nine-second (patchVerdict patch) absent (other-patch patch) later in
     let same : bothVerdict base patch ≡ absent = table .1 ∙ right .1 in
     let nine : absent .number ≡ 9 = ap (λ (v : Verdict). v .number) (sym same) ∙ h in
-    let frame = frame-of Patch patch (patch-frame patch (right .0)) in
+    let frame = frame-of Patch patch (frame-accepted Patch patch (right .0)) in
     let below : absent .place < length (records patch) = nine-place (λ k. eqb (wayOf (getD (records patch) k [])) 0 && not (has (records base) (getD (records patch) k []))) (length (records patch)) nine in
     rw same (record-fits Patch patch frame (absent .place) (omega (arith, as-many patch)))

@@ -37,7 +37,7 @@ module _ (image : List ℕ) (b k v : ℕ) (inside : k < 512) where
 
 -- and so for bytes k and k + 1 of block b
 module _ (image : List ℕ) (b k v w : ℕ) (inside : k + 1 < 512) where
-  pub neighbours-set : blockAt (set (set image (512 * b + k) v) (512 * b + k + 1) w) b ≡ set (set (blockAt image b) k v) (k + 1) w
+  neighbours-set : blockAt (set (set image (512 * b + k) v) (512 * b + k + 1) w) b ≡ set (set (blockAt image b) k v) (k + 1) w
   neighbours-set =
       rw (
         add-assoc (512 * b) k 1,
@@ -45,7 +45,7 @@ module _ (image : List ℕ) (b k v w : ℕ) (inside : k + 1 < 512) where
         block-set image b k v (omega arith),
       )
 
-  pub neighbours-other : (c : ℕ) → (c ≡ b → ⊥) → blockAt (set (set image (512 * b + k) v) (512 * b + k + 1) w) c ≡ blockAt image c
+  neighbours-other : (c : ℕ) → (c ≡ b → ⊥) → blockAt (set (set image (512 * b + k) v) (512 * b + k + 1) w) c ≡ blockAt image c
   neighbours-other c other =
       rw (
         add-assoc (512 * b) k 1,

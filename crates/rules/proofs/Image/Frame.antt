@@ -7,7 +7,7 @@ use native.Mathlib.Nat.{add-assoc}
 use native.Mathlib.Omega.{arith}
 use borrow.Author.Tests.{eqb-true, ne-eqb, ltb-true, ltb-false, le-ltb, leb-true, not-false}
 use lib.ListN.{length, getD, take, drop, length-take, length-drop}
-use lib.Seq.{getD-take, getD-drop, drop-drop}
+use lib.Seq.{drop-drop}
 use lib.Dec.{eqb, ltb, leb}
 use Rattle.rules.specs.declared.Form.{Form}
 use Rattle.rules.specs.declared.Form.the-variants.{Table, Patch}
@@ -17,7 +17,7 @@ use Rattle.rules.specs.Refusals.{accepted, fine, frameVerdict, lengthRef
 use Rattle.rules.proofs.Numbers.{either}
 use Rattle.rules.proofs.Blocks.{length-right}
 use Rattle.rules.proofs.Image.Parts.{Records, sized-upTo, part-front}
-use Rattle.rules.proofs.Bytes.{blank-zero, blank-true}
+use Rattle.rules.proofs.Bytes.{getD-part, blank-zero, blank-true}
 use Rattle.rules.proofs.Tests.{neither-first, neither-second, neither, both-first, both-second, not-fails, same-numbers, not-different}
 use Rattle.rules.proofs.Refusals.{numbered-some, accepted-first, accepted-second, fine-both, no-fault, fine-if, no-fault-at, fine-at}
 
@@ -149,7 +149,7 @@ frame-fine form image f =
 
 -- byte k of block b is a byte of the image
 pub byte-of-block : (image : List ℕ) (b k : ℕ) → k < 512 → getD (blockAt image b) k 0 ≡ getD image (512 * b + k) 0
-byte-of-block image b k l = rw (getD-take 512 (drop (512 * b) image) k 0 l, getD-drop)
+byte-of-block image b k l = getD-part image (512 * b) 512 k l
 
 -- a record is read from the block that it is in
 pub record-of-block : (image : List ℕ) (k : ℕ)

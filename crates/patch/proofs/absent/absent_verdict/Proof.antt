@@ -5,8 +5,8 @@ use native.Mathlib.Omega.{arith}
 use Rattle.rules.specs.declared.Form.the-variants.{Patch}
 use Rattle.rules.specs.Blocks.{recordAt, recordCount}
 use Rattle.rules.specs.Records.{wayOf}
+use Rattle.rules.proofs.Image.Frame.{frame-accepted}
 use Rattle.table.proofs.Counts.{records-few, patch-held}
-use Rattle.patch.proofs.Accepted.{patch-frame}
 use Rattle.patch.proofs.Lacking.{absent-refused, absent-none}
 use borrow.Author.Needs.{needs}
 use Rattle.patch.proofs.absent.absent_verdict.Statement.{statement}
@@ -27,7 +27,7 @@ byte-at-requires c κs = search needs
 cast-t9 : tie.Need-cast-t9
 cast-t9 c =
     let patch = c .before .before .before .before .before .before .before .before .args .patch .now in
-    omega (arith, c .before .before .before .before .record-count .ensures, c .before .before .before .if1 .taken, records-few Patch patch (patch-frame patch (c .before .before .before .before .before .before .before .before .pre .1)))
+    omega (arith, c .before .before .before .before .record-count .ensures, c .before .before .before .if1 .taken, records-few Patch patch (frame-accepted Patch patch (c .before .before .before .before .before .before .before .before .pre .1)))
 
 returns : tie.Need-returns
 returns c =
