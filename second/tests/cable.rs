@@ -3,27 +3,20 @@
 mod common;
 
 use common::*;
-use second::blocks::{check_is_right, patch_image, BLOCK_BYTES, CHECK_AT};
+use second::blocks::{check_is_right, patch_image, records_in, BLOCK_BYTES, CHECK_AT};
 use second::bound_call::bound_call;
 use second::cable::{
     cancelled, cancelling_pairs, changes_of, lowering_pairs, with_changes, Change,
 };
 use second::figure2::figure2;
-use second::generate::random::Random;
-use second::generate::tables::fullest_table;
 use second::map_call::map_call;
 use second::numbered_cases::patch_of;
 use second::patch_call::patch_call;
 use second::verdict::{records_of_table, Refusal};
 
-/// An image with 23 blocks, as many as a table can have.
-fn full_table() -> Vec<u8> {
-    table_image(&fullest_table(&mut Random::from_seed(1)))
-}
-
 /// An image with 45 blocks, as many as a patch can have: it takes out and puts in a full table.
 fn full_patch() -> Vec<u8> {
-    let records = fullest_table(&mut Random::from_seed(1)).records();
+    let records = records_in(&full_table());
     patch_image(&records, &records)
 }
 

@@ -7,7 +7,7 @@ use second::blocks::{image_of, mend_checks, records_in, right_check, Form, BLOCK
 use second::bytes::{put_u16, put_u32, u16_at};
 use second::figure2::figure2;
 use second::generate::random::Random;
-use second::generate::tables::{any_table, fullest_table};
+use second::generate::tables::any_table;
 use second::map_call::map_call;
 use second::records::{Record, Transaction, PUT_IN};
 use second::table::Table;
@@ -33,7 +33,7 @@ fn transactions(count: u16) -> Vec<Record> {
 
 /// The fullest image with one byte changed and its checks mended.
 fn full_image_with(at: usize, value: u8) -> Vec<u8> {
-    let mut image = table_image(&fullest_table(&mut Random::from_seed(1)));
+    let mut image = full_table();
     image[at] = value;
     mend_checks(&mut image);
     image

@@ -89,9 +89,11 @@ fn flip_a_byte(random: &mut Random, image: &mut [u8]) {
     image[at] ^= random.byte_above_zero();
 }
 
-/// Changes two neighbouring bytes of the image over with each other.
+/// Changes two neighbouring bytes with different values over with each other; the two letters of a mark are such.
 fn change_neighbours_over(random: &mut Random, image: &mut [u8]) {
-    let at = random.rank(image.len() - 1);
+    let differs = |at: &usize| image[*at] != image[*at + 1];
+    let unequal: Vec<usize> = (0..image.len() - 1).filter(differs).collect();
+    let at = random.pick(&unequal);
     image.swap(at, at + 1);
 }
 

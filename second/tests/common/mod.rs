@@ -4,6 +4,8 @@
 
 use second::blocks::{image_of, Form};
 use second::bound_call::{bound_call, Bounds};
+use second::generate::random::Random;
+use second::generate::tables::fullest_table;
 use second::patch_call::{patch_call, Patched};
 use second::preempt::true_map;
 use second::records::{Pair, PairSort, Task, Transaction};
@@ -60,6 +62,11 @@ pub fn precedence(first: u16, second: u16) -> Pair {
 /// The image of a table.
 pub fn table_image(table: &Table) -> Vec<u8> {
     image_of(Form::Table, &table.records())
+}
+
+/// The image of a table with as many records of every kind as there may be, which takes 23 blocks.
+pub fn full_table() -> Vec<u8> {
+    table_image(&fullest_table(&mut Random::from_seed(1)))
 }
 
 /// Number and place of an image as a table.

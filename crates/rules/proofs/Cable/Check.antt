@@ -1,5 +1,5 @@
 -- A block with the right check, of which a byte became another byte, or two neighbours changed over, has a wrong one.
-use Prim.Native.Nat.{ℕ, _+_, _*_, _%_, _≤_, _<_}
+use Prim.Native.Nat.{ℕ, _+_, _*_, _≤_, _<_}
 use mathlib.Core.List.{List}
 use mathlib.Core.Bool.{true, false, not}
 use mathlib.Core.Path.{_≡_, ap, sym, _∙_}
