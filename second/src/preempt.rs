@@ -1,6 +1,7 @@
-//! Who may preempt whom, and the map of it.
+//! Who may preempt whom and why, and the map of it.
 
-use crate::records::Task;
+use crate::reasons::Reason;
+use crate::records::{Pair, Task};
 use crate::table::Table;
 
 /// Rows of a map, and cells of a row.
@@ -17,25 +18,46 @@ pub fn distance(from: u32, to: u32, period: u32) -> u64 {
 
 /// Whether task `lower` may be preempted by task `upper`.
 pub fn may_be_preempted(table: &Table, lower: &Task, upper: &Task) -> bool {
-    lower.priority < upper.priority
-        && !table
-            .pairs
-            .iter()
-            .any(|pair| pair.forbids(lower.id, upper.id))
-        && may_meet(table, lower, upper)
+    reason_for(table, lower, upper).lets_nest()
 }
 
-/// Whether the timing of the two tasks lets `upper` start while `lower` is unfinished.
-fn may_meet(table: &Table, lower: &Task, upper: &Task) -> bool {
-    if lower.transaction != upper.transaction {
-        return true;
+/// Why task `lower` may be preempted by task `upper`, or why it may not.
+pub fn reason_for(table: &Table, lower: &Task, upper: &Task) -> Reason {
+    let forbids = |pair: &Pair| pair.forbids(lower.id, upper.id);
+    if lower.priority >= upper.priority {
+        Reason::Priority
+    } else if table.pairs.iter().any(forbids) {
+        Reason::Pair
+    } else if lower.transaction != upper.transaction {
+        Reason::Transaction
+    } else {
+        reason_of_times(table, lower, upper)
     }
+}
+
+/// What the times of two tasks of one transaction say; without a period they say no.
+fn reason_of_times(table: &Table, lower: &Task, upper: &Task) -> Reason {
     let Some(period) = table.period_of(lower.transaction) else {
-        return false;
+        return Reason::Timing;
     };
     let apart = distance(upper.offset, lower.offset, period);
     let unfinished_for = u64::from(lower.response) - u64::from(lower.offset);
-    u64::from(upper.read_jitter()) > apart || unfinished_for > u64::from(period) - apart
+    if u64::from(upper.read_jitter()) > apart {
+        Reason::Jitter
+    } else if unfinished_for > u64::from(period) - apart {
+        Reason::Response
+    } else {
+        Reason::Timing
+    }
+}
+
+/// The reasons of all pairs of places, row after row.
+pub fn all_reasons(table: &Table) -> Vec<Reason> {
+    let row = |lower| {
+        let reason = move |upper| reason_for(table, lower, upper);
+        table.tasks.iter().map(reason)
+    };
+    table.tasks.iter().flat_map(row).collect()
 }
 
 /// The map of a table, decided cell by cell.

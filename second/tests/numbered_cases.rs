@@ -7,21 +7,22 @@ use second::answer::answer;
 use second::blocks::{records_in, right_check};
 use second::figure2::figure2;
 use second::numbered_cases::{patch_of, runs_of};
-use second::preempt::{is_set, may_be_preempted, true_map};
+use second::preempt::{is_set, reason_for, true_map};
+use second::reasons::Reason;
 use second::records::Task;
 use second::table::Table;
 use second::verdict::Refusal;
 
-/// Whether the first of two tasks may be preempted by the second.
-fn answers(lower: Task, upper: Task) -> bool {
-    may_be_preempted(&table(&[lower, upper], &[]), &lower, &upper)
+/// Why the first of two tasks may or may not be preempted by the second.
+fn answers(lower: Task, upper: Task) -> Reason {
+    reason_for(&table(&[lower, upper], &[]), &lower, &upper)
 }
 
 #[test]
 fn cases_1_and_2_response_reaches_the_next_activation() {
     let upper = task(2, 2, 2588, 3000);
-    assert!(!answers(task(1, 1, 617, 2588), upper));
-    assert!(answers(task(1, 1, 617, 2589), upper));
+    assert_eq!(answers(task(1, 1, 617, 2588), upper), Reason::Timing);
+    assert_eq!(answers(task(1, 1, 617, 2589), upper), Reason::Response);
 }
 
 #[test]
@@ -31,15 +32,15 @@ fn cases_3_and_4_jitter_passes_the_distance() {
         jitter,
         ..task(2, 2, 0, 100)
     };
-    assert!(!answers(lower, upper(617)));
-    assert!(answers(lower, upper(618)));
+    assert_eq!(answers(lower, upper(617)), Reason::Timing);
+    assert_eq!(answers(lower, upper(618)), Reason::Jitter);
 }
 
 #[test]
 fn cases_5_and_6_response_passes_the_period() {
     let upper = task(2, 2, 0, 100);
-    assert!(!answers(task(1, 1, 0, 10_000), upper));
-    assert!(answers(task(1, 1, 0, 10_001), upper));
+    assert_eq!(answers(task(1, 1, 0, 10_000), upper), Reason::Timing);
+    assert_eq!(answers(task(1, 1, 0, 10_001), upper), Reason::Response);
 }
 
 #[test]
@@ -50,13 +51,13 @@ fn cases_7_to_10_two_transactions_and_pairs() {
     };
     let equal = task(1, 2, 0, 100);
     let lower = task(1, 1, 0, 100);
-    assert!(!answers(equal, upper));
-    assert!(answers(lower, upper));
-    let with = |pair| may_be_preempted(&table(&[lower, upper], &[pair]), &lower, &upper);
-    assert!(with(one_way(2, 1)));
-    assert!(!with(one_way(1, 2)));
-    assert!(!with(precedence(2, 1)));
-    assert!(!with(precedence(1, 2)));
+    assert_eq!(answers(equal, upper), Reason::Priority);
+    assert_eq!(answers(lower, upper), Reason::Transaction);
+    let with = |pair| reason_for(&table(&[lower, upper], &[pair]), &lower, &upper);
+    assert_eq!(with(one_way(2, 1)), Reason::Transaction);
+    assert_eq!(with(one_way(1, 2)), Reason::Pair);
+    assert_eq!(with(precedence(2, 1)), Reason::Pair);
+    assert_eq!(with(precedence(1, 2)), Reason::Pair);
 }
 
 #[test]

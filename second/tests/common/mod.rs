@@ -8,7 +8,7 @@ use second::generate::random::Random;
 use second::generate::tables::fullest_table;
 use second::patch_call::{patch_call, Patched};
 use second::preempt::true_map;
-use second::records::{Pair, PairSort, Task, Transaction};
+use second::records::{Pair, PairSort, Task, Transaction, MISSING_JITTER};
 use second::table::Table;
 use second::verdict::{records_of_patch, records_of_table, Refusal};
 
@@ -95,6 +95,22 @@ pub fn bounds_with(table: &Table, map: &[u64]) -> (Bounds, Vec<u16>) {
 /// The bounds of a table with its own map, and the chain's ids.
 pub fn own_bounds(table: &Table) -> (Bounds, Vec<u16>) {
     bounds_with(table, &true_map(table))
+}
+
+/// By how much the jitter passes the distance of two tasks of one transaction, and by how much the
+/// response passes the wait until the upper task's next activation; above 0 the rule holds.
+pub fn margins(table: &Table, lower: &Task, upper: &Task) -> (i64, i64) {
+    let is_own = |transaction: &&Transaction| transaction.number == lower.transaction;
+    let own = table.transactions.iter().find(is_own);
+    let period = i64::from(own.expect("a listed transaction").period);
+    let ahead = i64::from(upper.offset) - i64::from(lower.offset);
+    let wait = if ahead > 0 { ahead } else { ahead + period };
+    let jitter = match upper.jitter {
+        MISSING_JITTER => 0,
+        measured => i64::from(measured),
+    };
+    let unfinished_for = i64::from(lower.response) - i64::from(lower.offset);
+    (jitter - (period - wait), unfinished_for - wait)
 }
 
 /// What an accepted patch leaves.

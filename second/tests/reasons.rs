@@ -1,0 +1,144 @@
+//! The reasons of pairs: their words and numbers, the rule that is named, and the map that they give.
+
+mod common;
+
+use common::*;
+use second::generate::Generator;
+use second::preempt::{all_reasons, is_set, may_be_preempted, reason_for, true_map};
+use second::reasons::Reason;
+use second::records::Task;
+use second::stream::Call;
+use second::table::Table;
+use second::verdict::records_of_table;
+
+#[test]
+fn reasons_have_these_words_and_numbers() {
+    let named = Reason::ALL.map(|reason| (reason.number(), reason.word(), reason.lets_nest()));
+    let expected = [
+        (1, "transaction", true),
+        (2, "jitter", true),
+        (3, "response", true),
+        (4, "priority", false),
+        (5, "pair", false),
+        (6, "timing", false),
+    ];
+    assert_eq!(named, expected);
+}
+
+/// A task of offset 0 whose jitter passes every distance and whose response passes every wait.
+fn always_late(id: u16, priority: u16) -> Task {
+    Task {
+        jitter: PERIOD,
+        ..task(id, priority, 0, 2 * PERIOD)
+    }
+}
+
+#[test]
+fn jitter_is_named_before_response() {
+    let (lower, upper) = (always_late(1, 1), always_late(2, 2));
+    let asked = table(&[lower, upper], &[]);
+    assert_eq!(reason_for(&asked, &lower, &upper), Reason::Jitter);
+    let upper = Task { jitter: 0, ..upper };
+    assert_eq!(reason_for(&asked, &lower, &upper), Reason::Response);
+}
+
+#[test]
+fn times_are_not_asked_across_transactions() {
+    let lower = always_late(1, 1);
+    let brief = task(1, 1, 0, 0);
+    let upper = Task {
+        transaction: 2,
+        ..always_late(2, 2)
+    };
+    let asked = table(&[lower, upper], &[]);
+    assert_eq!(reason_for(&asked, &lower, &upper), Reason::Transaction);
+    assert_eq!(reason_for(&asked, &brief, &upper), Reason::Transaction);
+}
+
+#[test]
+fn priority_is_named_before_a_pair_and_a_pair_before_times() {
+    let (lower, upper) = (always_late(1, 1), always_late(2, 2));
+    let asked = table(&[lower, upper], &[precedence(1, 2)]);
+    assert_eq!(reason_for(&asked, &lower, &upper), Reason::Pair);
+    assert_eq!(reason_for(&asked, &upper, &lower), Reason::Priority);
+    let brief = task(1, 1, 0, 0);
+    assert_eq!(reason_for(&asked, &brief, &upper), Reason::Pair);
+}
+
+#[test]
+fn a_task_with_itself_is_priority() {
+    let alone = always_late(1, 1);
+    for pairs in [&[][..], &[one_way(1, 1)], &[precedence(1, 1)]] {
+        let asked = table(&[alone], pairs);
+        assert_eq!(reason_for(&asked, &alone, &alone), Reason::Priority);
+    }
+    let unlisted = Table::default();
+    assert_eq!(reason_for(&unlisted, &alone, &alone), Reason::Priority);
+}
+
+#[test]
+fn the_other_way_round_has_another_reason() {
+    let (lower, upper) = (task(1, 1, 0, 2 * PERIOD), task(2, 2, 0, 0));
+    let asked = table(&[lower, upper], &[]);
+    let reasons = all_reasons(&asked).into_iter();
+    let words: Vec<&str> = reasons.map(Reason::word).collect();
+    assert_eq!(words, ["priority", "response", "priority", "priority"]);
+}
+
+#[test]
+fn without_a_period_times_say_no() {
+    let (lower, upper) = (always_late(1, 1), always_late(2, 2));
+    let asked = Table {
+        transactions: Vec::new(),
+        ..table(&[lower, upper], &[])
+    };
+    assert_eq!(reason_for(&asked, &lower, &upper), Reason::Timing);
+    assert!(!may_be_preempted(&asked, &lower, &upper));
+}
+
+/// The reason as a list of rules says it, of which the first that holds is named.
+fn restated(table: &Table, lower: &Task, upper: &Task) -> Reason {
+    let (jitter, response) = margins(table, lower, upper);
+    let forbidding = [
+        one_way(lower.id, upper.id),
+        precedence(lower.id, upper.id),
+        precedence(upper.id, lower.id),
+    ];
+    let is_forbidden = forbidding.iter().any(|pair| table.pairs.contains(pair));
+    let rules = [
+        (Reason::Priority, upper.priority <= lower.priority),
+        (Reason::Pair, is_forbidden),
+        (Reason::Transaction, lower.transaction != upper.transaction),
+        (Reason::Jitter, jitter > 0),
+        (Reason::Response, response > 0),
+        (Reason::Timing, true),
+    ];
+    let first = rules.iter().find(|(_, holds)| *holds);
+    first.expect("a rule that holds").0
+}
+
+/// Asserts that all reasons of a table are as restated, and that its map is set where they let nest.
+fn assert_reasons_of(table: &Table) {
+    let map = true_map(table);
+    let mut reasons = all_reasons(table).into_iter();
+    for (row, lower) in table.tasks.iter().enumerate() {
+        for (cell, upper) in table.tasks.iter().enumerate() {
+            let reason = reasons.next().expect("a reason for each pair");
+            assert_eq!(reason, restated(table, lower, upper));
+            assert_eq!(reason.number() <= 3, is_set(&map, row, cell));
+        }
+    }
+    assert_eq!(reasons.next(), None);
+}
+
+#[test]
+fn reasons_of_drawn_tables_are_as_restated_and_give_the_map() {
+    for call in [Call::TableVerdict, Call::Map, Call::Bound] {
+        let mut generator = Generator::from_seed(51);
+        let images = (0..1000).map(|_| generator.next_case(call).image);
+        let accepted = images.filter_map(|image| records_of_table(&image).ok());
+        let tables: Vec<Table> = accepted.map(|records| Table::read(&records)).collect();
+        assert!(tables.len() > 400);
+        tables.iter().for_each(assert_reasons_of);
+    }
+}
