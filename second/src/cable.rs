@@ -3,7 +3,6 @@
 use std::collections::BTreeMap;
 
 use crate::blocks::{image_of, Form, BLOCK_BYTES, CHECK_AT, CHECK_MODULUS};
-use crate::bound_call::ID_ENTRIES;
 use crate::figure2::figure2;
 use crate::report::bounds_with_own_map;
 
@@ -65,8 +64,8 @@ pub fn cancelling_pairs(block: &[u8]) -> Vec<[Change; 2]> {
 
 /// The chain bound of an image with its own map, if the image is accepted.
 fn chain_of(image: &[u8]) -> Option<u64> {
-    let bounds = bounds_with_own_map(image, &mut [0; ID_ENTRIES]);
-    bounds.ok().map(|bounds| bounds.chain)
+    let given = bounds_with_own_map(image);
+    given.ok().map(|(bounds, _)| bounds.chain)
 }
 
 /// The pairs of changes that leave an image of one block accepted, with a chain bound that is too low.

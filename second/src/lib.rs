@@ -21,6 +21,7 @@ pub mod map_call;
 pub mod numbered_cases;
 pub mod patch_call;
 pub mod preempt;
+pub mod reason_call;
 pub mod reasons;
 pub mod record_faults;
 pub mod records;

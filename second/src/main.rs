@@ -12,19 +12,19 @@ use second::figure2::figure2;
 use second::generate::{write_stream, Wanted};
 use second::heaviest::heaviest;
 use second::numbered_cases::{patch_of, runs_of};
-use second::report::report;
+use second::report::{bounds_report, reasons_report};
 use second::sorts::Sorts;
 use second::stream::Case;
 use second::table::Table;
 
 const USAGE: &str =
-    "usage: second bounds | generate SEED LETTERS COUNT | answer | sorts | figure2 \
+    "usage: second bounds | reasons | generate SEED LETTERS COUNT | answer | sorts | figure2 \
                      | heaviest | cancelled | patch NUMBER | case NUMBER \
                      (LETTERS are some of T, P, M, B, A, R and L; NUMBER is 11, 12 or 13)";
 
 /// What the command line asks for.
 enum Command {
-    Bounds,
+    Report(fn(&[u8]) -> String),
     Generate {
         seed: u64,
         wanted: Vec<Wanted>,
@@ -56,7 +56,8 @@ fn main() -> ExitCode {
 /// The command that these words name, if they name one.
 fn command_from(words: &[&str]) -> Option<Command> {
     match words {
-        ["bounds"] => Some(Command::Bounds),
+        ["bounds"] => Some(Command::Report(bounds_report)),
+        ["reasons"] => Some(Command::Report(reasons_report)),
         ["answer"] => Some(Command::Answer),
         ["sorts"] => Some(Command::Sorts),
         ["figure2"] => Some(Command::Table(figure2())),
@@ -83,7 +84,7 @@ fn run(command: Command) -> io::Result<()> {
     let mut input = BufReader::new(io::stdin().lock());
     let mut output = BufWriter::new(io::stdout().lock());
     match command {
-        Command::Bounds => output.write_all(report(&read_image(&mut input)?).as_bytes())?,
+        Command::Report(report) => output.write_all(report(&read_image(&mut input)?).as_bytes())?,
         Command::Generate {
             seed,
             wanted,

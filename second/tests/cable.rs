@@ -12,6 +12,7 @@ use second::figure2::figure2;
 use second::map_call::map_call;
 use second::numbered_cases::patch_of;
 use second::patch_call::patch_call;
+use second::reason_call::reason_call;
 use second::verdict::{records_of_table, Refusal};
 
 /// An image with 45 blocks, as many as a patch can have: it takes out and puts in a full table.
@@ -124,6 +125,8 @@ fn every_call_refuses_a_changed_table_and_writes_nothing() {
         );
         assert_eq!(map_call(&changed, &mut []), Err(refused));
         assert_eq!(bound_call(&changed, &[], &mut []), Err(refused));
+        assert_eq!(reason_call(&changed, 11, 12), Err(refused));
+        assert_eq!(reason_call(&changed, 0, 0), Err(refused));
         assert_eq!(
             patch_call(&changed, &[], &[], &mut [], &mut []),
             Err(refused.into())

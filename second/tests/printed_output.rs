@@ -5,11 +5,16 @@ mod common;
 use std::io::Write;
 use std::process::{Command, Output, Stdio};
 
-use common::table_image;
+use common::{table, table_image, task};
 use second::figure2::figure2;
+use second::heaviest::heaviest;
 use second::table::Table;
 
 const FIGURE_2: &str = "tasks 6\nchain 8: 11 12 23\npath 10\ntransactions 9\nlevels 10\n";
+const FIGURE_2_REASONS: &str = "11 12 response\n12 23 transaction\n";
+
+/// The commands that print what they say of one image, and read all of their input for it.
+const REPORTS: [&str; 2] = ["bounds", "reasons"];
 
 /// Runs the program with these arguments and this input.
 fn run(arguments: &[&str], input: &[u8]) -> Output {
@@ -21,7 +26,8 @@ fn run(arguments: &[&str], input: &[u8]) -> Output {
         .spawn()
         .expect("the program starts");
     let written = child.stdin.take().expect("an input").write_all(input);
-    assert!(written.is_ok() || !arguments.contains(&"bounds"));
+    let reads_all = arguments.iter().any(|word| REPORTS.contains(word));
+    assert!(written.is_ok() || !reads_all);
     child.wait_with_output().expect("the program ends")
 }
 
@@ -31,7 +37,9 @@ fn printed(arguments: &[&str], input: &[u8]) -> String {
 
 #[test]
 fn figure_2_is_printed_exactly() {
-    assert_eq!(printed(&["bounds"], &table_image(&figure2())), FIGURE_2);
+    let image = table_image(&figure2());
+    assert_eq!(printed(&["bounds"], &image), FIGURE_2);
+    assert_eq!(printed(&["reasons"], &image), FIGURE_2_REASONS);
 }
 
 #[test]
@@ -39,6 +47,8 @@ fn figure_2_is_the_example_and_the_command() {
     let example = include_bytes!("../../examples/figure2.tb");
     assert_eq!(run(&["figure2"], &[]).stdout, example);
     assert_eq!(printed(&["bounds"], example), FIGURE_2);
+    let reasons = include_str!("../../examples/figure2.reasons.txt");
+    assert_eq!(printed(&["reasons"], example), reasons);
 }
 
 #[test]
@@ -80,32 +90,51 @@ fn no_tasks_print_zeros() {
 }
 
 #[test]
+fn a_chain_without_neighbours_prints_no_reasons() {
+    let (lower, upper) = (task(1, 1, 0, 1), task(2, 2, 0, 1));
+    for tasks in [&[][..], &[lower], &[lower, upper]] {
+        let image = table_image(&table(tasks, &[]));
+        assert_eq!(printed(&["reasons"], &image), "");
+    }
+    assert_eq!(printed(&["reasons"], &table_image(&Table::default())), "");
+}
+
+#[test]
+fn the_longest_chain_prints_63_reasons() {
+    let line = |low: u16| format!("{low} {} jitter\n", low + 1);
+    let lines: String = (1..=63).map(line).collect();
+    assert_eq!(printed(&["reasons"], &table_image(&heaviest())), lines);
+}
+
+#[test]
 fn a_refusal_is_one_line() {
-    assert_eq!(printed(&["bounds"], &[]), "refused 1 at 0\n");
-    let mut image = table_image(&figure2());
-    image[510] ^= 1;
-    assert_eq!(printed(&["bounds"], &image), "refused 2 at 0\n");
-    image[8] = 9;
-    second::blocks::mend_checks(&mut image);
-    assert_eq!(printed(&["bounds"], &image), "refused 4 at 0\n");
+    for report in REPORTS {
+        assert_eq!(printed(&[report], &[]), "refused 1 at 0\n");
+        let mut image = table_image(&figure2());
+        image[510] ^= 1;
+        assert_eq!(printed(&[report], &image), "refused 2 at 0\n");
+        image[8] = 9;
+        second::blocks::mend_checks(&mut image);
+        assert_eq!(printed(&[report], &image), "refused 4 at 0\n");
+    }
 }
 
 #[test]
 fn input_past_the_longest_table_is_refusal_1() {
-    assert_eq!(printed(&["bounds"], &[0; 11_776]), "refused 3 at 0\n");
-    assert_eq!(printed(&["bounds"], &[0; 11_777]), "refused 1 at 0\n");
-    assert_eq!(
-        printed(&["bounds"], &vec![0; 2_000_000]),
-        "refused 1 at 0\n"
-    );
+    for report in REPORTS {
+        assert_eq!(printed(&[report], &[0; 11_776]), "refused 3 at 0\n");
+        assert_eq!(printed(&[report], &[0; 11_777]), "refused 1 at 0\n");
+        assert_eq!(printed(&[report], &vec![0; 2_000_000]), "refused 1 at 0\n");
+    }
 }
 
 #[test]
 fn wrong_usage_is_told_on_standard_error() {
-    let wrong: [&[&str]; 9] = [
+    let wrong: [&[&str]; 10] = [
         &[],
         &["other"],
         &["bounds", "more"],
+        &["reasons", "more"],
         &["generate", "1", "T"],
         &["generate", "1", "TX", "3"],
         &["generate", "1", "", "3"],

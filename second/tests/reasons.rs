@@ -1,15 +1,17 @@
-//! The reasons of pairs: their words and numbers, the rule that is named, and the map that they give.
+//! The reasons of pairs: their words and numbers, the rule that is named, the map that they give, and the call.
 
 mod common;
 
 use common::*;
+use second::figure2::figure2;
 use second::generate::Generator;
 use second::preempt::{all_reasons, is_set, may_be_preempted, reason_for, true_map};
+use second::reason_call::reason_call;
 use second::reasons::Reason;
 use second::records::Task;
 use second::stream::Call;
 use second::table::Table;
-use second::verdict::records_of_table;
+use second::verdict::{records_of_table, Refusal};
 
 #[test]
 fn reasons_have_these_words_and_numbers() {
@@ -141,4 +143,58 @@ fn reasons_of_drawn_tables_are_as_restated_and_give_the_map() {
         assert!(tables.len() > 400);
         tables.iter().for_each(assert_reasons_of);
     }
+}
+
+#[test]
+fn a_call_answers_by_ids_and_in_their_order() {
+    let image = table_image(&figure2());
+    assert_eq!(reason_call(&image, 11, 12), Ok(Reason::Response));
+    assert_eq!(reason_call(&image, 12, 23), Ok(Reason::Transaction));
+    assert_eq!(reason_call(&image, 23, 12), Ok(Reason::Priority));
+    assert_eq!(reason_call(&image, 12, 12), Ok(Reason::Priority));
+    assert_eq!(reason_call(&image, 11, 13), Ok(Reason::Timing));
+}
+
+#[test]
+fn a_call_refuses_every_unlisted_id_with_15() {
+    let unlisted = [
+        0,
+        10,
+        24,
+        65_535,
+        65_536,
+        65_536 + 11,
+        131_072 + 12,
+        u32::MAX,
+    ];
+    let refused = Err(Refusal::new(15, 0));
+    let image = table_image(&figure2());
+    for id in unlisted {
+        assert_eq!(reason_call(&image, id, 12), refused);
+        assert_eq!(reason_call(&image, 11, id), refused);
+        assert_eq!(reason_call(&image, id, id), refused);
+    }
+    assert_eq!(reason_call(&table_image(&Table::default()), 1, 1), refused);
+}
+
+#[test]
+fn a_call_takes_the_highest_id_and_no_number_past_it() {
+    let image = table_image(&table(&[task(u16::MAX, 1, 0, 0)], &[]));
+    assert_eq!(reason_call(&image, 65_535, 65_535), Ok(Reason::Priority));
+    let refused = Err(Refusal::new(15, 0));
+    assert_eq!(reason_call(&image, 65_535, 131_071), refused);
+}
+
+#[test]
+fn a_call_refuses_the_table_before_the_ids() {
+    let mut generator = Generator::from_seed(52);
+    let mut refused = 0;
+    for _ in 0..1000 {
+        let image = generator.next_case(Call::TableVerdict).image;
+        if let Err(refusal) = records_of_table(&image) {
+            assert_eq!(reason_call(&image, 0, u32::MAX), Err(refusal));
+            refused += 1;
+        }
+    }
+    assert!(refused > 400);
 }
