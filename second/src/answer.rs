@@ -5,7 +5,12 @@ use crate::bound_call::{bound_call, Bounds, ID_ENTRIES};
 use crate::digest;
 use crate::map_call::map_call;
 use crate::patch_call::{patch_call, PatchRefusal, Patched};
+use crate::preempt::all_reasons;
+use crate::reason_call::reason_call;
+use crate::reasons::Reason;
+use crate::stream::question::Question;
 use crate::stream::{Call, Case};
+use crate::table::Table;
 use crate::verdict::{records_of_patch, records_of_table, Refusal};
 
 /// What stands for number and place where a call is accepted.
@@ -21,6 +26,7 @@ pub fn answer(case: &mut Case) -> String {
         Call::Bound => line(letter, bound_numbers(case)),
         Call::Patch => line(letter, patch_numbers(case)),
         Call::Run => line_afresh(case),
+        Call::Reasons => line(letter, reason_numbers(case)) + &parts_of_questions(case),
     }
 }
 
@@ -28,6 +34,11 @@ pub fn answer(case: &mut Case) -> String {
 fn line(mark: char, numbers: Vec<u64>) -> String {
     let numbers: String = numbers.iter().map(|number| format!(" {number}")).collect();
     format!("{mark}{numbers}")
+}
+
+/// A part of a line: a bar and the numbers behind it.
+fn part(numbers: Vec<u64>) -> String {
+    format!(" {}", line('|', numbers))
 }
 
 /// Number and place of what a call gave.
@@ -120,7 +131,7 @@ pub fn part_of_run(given: &Result<Patched, PatchRefusal>, standing: &Standing) -
     let mut numbers = patched_numbers(given);
     numbers.extend(offending_part(given).iter().map(|byte| u64::from(*byte)));
     numbers.extend(standing_numbers(standing));
-    format!(" {}", line('|', numbers))
+    part(numbers)
 }
 
 /// The digests of table and map, the bounds over that map with the chain's ids, and the rows of the tasks.
@@ -136,4 +147,32 @@ fn standing_numbers(standing: &Standing) -> Vec<u64> {
     numbers.extend(ids[..bounds.length].iter().map(|id| u64::from(*id)));
     numbers.extend(&standing.map[..bounds.tasks]);
     numbers
+}
+
+/// The verdict of the table, the digest of all its reasons, and how many pairs each reason has.
+fn reason_numbers(case: &Case) -> Vec<u64> {
+    let records = records_of_table(&case.image);
+    let reasons = match &records {
+        Ok(records) => all_reasons(&Table::read(records)),
+        Err(_) => Vec::new(),
+    };
+    let pairs_with = |reason: Reason| reasons.iter().filter(|given| **given == reason).count();
+    let mut numbers = verdict_numbers(records);
+    numbers.push(digest::of_bytes(
+        reasons.iter().map(|reason| reason.number()),
+    ));
+    numbers.extend(Reason::ALL.map(|reason| pairs_with(reason) as u64));
+    numbers
+}
+
+/// The reason call of each question: number, place and reason.
+fn parts_of_questions(case: &Case) -> String {
+    let part_of = |row: &u64| {
+        let Question { low, high } = Question::from_row(*row);
+        let given = reason_call(&case.image, low, high);
+        let mut numbers = verdict_numbers(given);
+        numbers.push(given.map_or(0, |reason| u64::from(reason.number())));
+        part(numbers)
+    };
+    case.map_read.iter().map(part_of).collect()
 }

@@ -1,6 +1,7 @@
 //! The stream of cases: one header of 32 bytes for each case and then everything that is lent.
 
 pub mod parts;
+pub mod question;
 pub mod step;
 
 use std::io::{self, Read, Write};
@@ -37,6 +38,7 @@ pub enum Call {
     Bound,
     Patch,
     Run,
+    Reasons,
 }
 
 impl Call {
@@ -49,6 +51,7 @@ impl Call {
             b'B' => Some(Call::Bound),
             b'A' => Some(Call::Patch),
             b'R' => Some(Call::Run),
+            b'W' => Some(Call::Reasons),
             _ => None,
         }
     }
@@ -62,6 +65,7 @@ impl Call {
             Call::Bound => b'B',
             Call::Patch => b'A',
             Call::Run => b'R',
+            Call::Reasons => b'W',
         }
     }
 }
@@ -72,6 +76,7 @@ pub struct Case {
     pub call: Call,
     pub image: Vec<u8>,
     pub patch: Vec<u8>,
+    /// The rows of the map that is read, or the questions of a case that asks for reasons.
     pub map_read: Vec<u64>,
     pub map_written: Vec<u64>,
     pub ids: Vec<u16>,

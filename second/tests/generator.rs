@@ -1,7 +1,10 @@
 //! The generator: the same bytes for the same arguments, every refusal, about half accepted.
 
+mod common;
+
 use std::collections::{BTreeMap, BTreeSet};
 
+use common::numbers_in;
 use second::answer::answer;
 use second::bound_call::{bound_call, ID_ENTRIES};
 use second::generate::large_cases::CLASSES;
@@ -19,12 +22,7 @@ fn verdicts_of(call: Call) -> BTreeMap<(u32, u32), usize> {
     let mut generator = Generator::from_seed(1);
     let mut verdicts = BTreeMap::new();
     for _ in 0..CASES {
-        let line = answer(&mut generator.next_case(call));
-        let numbers: Vec<u32> = line
-            .split(' ')
-            .skip(1)
-            .map(|number| number.parse().expect("a decimal number"))
-            .collect();
+        let numbers = numbers_in(&answer(&mut generator.next_case(call)));
         *verdicts.entry((numbers[0], numbers[1])).or_insert(0) += 1;
     }
     verdicts
@@ -83,7 +81,7 @@ fn refusals_are_met_at_low_and_high_places() {
 
 /// The stream of this seed over all calls.
 fn stream(seed: u64, count: usize) -> Vec<u8> {
-    let wanted: Vec<Wanted> = b"TPMBARL"
+    let wanted: Vec<Wanted> = b"TPMBARWL"
         .iter()
         .copied()
         .filter_map(Wanted::from_letter)

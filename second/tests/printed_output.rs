@@ -8,6 +8,7 @@ use std::process::{Command, Output, Stdio};
 use common::{table, table_image, task};
 use second::figure2::figure2;
 use second::heaviest::heaviest;
+use second::stream::{Call, Case};
 use second::table::Table;
 
 const FIGURE_2: &str = "tasks 6\nchain 8: 11 12 23\npath 10\ntransactions 9\nlevels 10\n";
@@ -77,7 +78,7 @@ fn cases_are_streams_of_runs() {
 fn sorts_are_counted_where_there_are_patch_calls() {
     let patch_calls = run(&["generate", "3", "A", "50"], &[]).stdout;
     assert_eq!(printed(&["sorts"], &patch_calls).lines().count(), 16);
-    let others = run(&["generate", "3", "TPMBR", "50"], &[]).stdout;
+    let others = run(&["generate", "3", "TPMBRW", "50"], &[]).stdout;
     assert_eq!(printed(&["sorts"], &others), "");
 }
 
@@ -164,4 +165,24 @@ fn answers_stop_where_the_stream_breaks() {
     let mut past_limit = stream;
     past_limit[4..8].copy_from_slice(&24_577u32.to_le_bytes());
     assert_eq!(printed(&["answer"], &past_limit), "");
+}
+
+/// The stream of a case that puts this many questions to figure 2.
+fn stream_of_questions(questions: usize) -> Vec<u8> {
+    let case = Case {
+        map_read: vec![0; questions],
+        ..Case::lending(Call::Reasons, table_image(&figure2()))
+    };
+    let mut stream = Vec::new();
+    case.write(&mut stream).expect("a stream in memory");
+    stream
+}
+
+#[test]
+fn a_case_has_80_questions_at_most() {
+    let most = stream_of_questions(80);
+    let line = printed(&["answer"], &most);
+    assert_eq!(line.matches(" | 15 0 0").count(), 80);
+    assert_eq!(printed(&["answer"], &most[..most.len() - 1]), "");
+    assert_eq!(printed(&["answer"], &stream_of_questions(81)), "");
 }

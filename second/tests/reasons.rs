@@ -3,13 +3,16 @@
 mod common;
 
 use common::*;
+use second::answer::answer;
+use second::digest;
 use second::figure2::figure2;
 use second::generate::Generator;
 use second::preempt::{all_reasons, is_set, may_be_preempted, reason_for, true_map};
 use second::reason_call::reason_call;
 use second::reasons::Reason;
 use second::records::Task;
-use second::stream::Call;
+use second::stream::question::Question;
+use second::stream::{Call, Case};
 use second::table::Table;
 use second::verdict::{records_of_table, Refusal};
 
@@ -100,7 +103,7 @@ fn without_a_period_times_say_no() {
 
 /// The reason as a list of rules says it, of which the first that holds is named.
 fn restated(table: &Table, lower: &Task, upper: &Task) -> Reason {
-    let (jitter, response) = margins(table, lower, upper);
+    let margins = margins(table, lower, upper);
     let forbidding = [
         one_way(lower.id, upper.id),
         precedence(lower.id, upper.id),
@@ -111,8 +114,8 @@ fn restated(table: &Table, lower: &Task, upper: &Task) -> Reason {
         (Reason::Priority, upper.priority <= lower.priority),
         (Reason::Pair, is_forbidden),
         (Reason::Transaction, lower.transaction != upper.transaction),
-        (Reason::Jitter, jitter > 0),
-        (Reason::Response, response > 0),
+        (Reason::Jitter, margins.jitter > 0),
+        (Reason::Response, margins.response > 0),
         (Reason::Timing, true),
     ];
     let first = rules.iter().find(|(_, holds)| *holds);
@@ -135,7 +138,7 @@ fn assert_reasons_of(table: &Table) {
 
 #[test]
 fn reasons_of_drawn_tables_are_as_restated_and_give_the_map() {
-    for call in [Call::TableVerdict, Call::Map, Call::Bound] {
+    for call in [Call::TableVerdict, Call::Map, Call::Reasons] {
         let mut generator = Generator::from_seed(51);
         let images = (0..1000).map(|_| generator.next_case(call).image);
         let accepted = images.filter_map(|image| records_of_table(&image).ok());
@@ -197,4 +200,51 @@ fn a_call_refuses_the_table_before_the_ids() {
         }
     }
     assert!(refused > 400);
+}
+
+/// A case that puts these questions to this image.
+fn asking(image: Vec<u8>, questions: &[(u32, u32)]) -> Case {
+    let row = |&(low, high): &(u32, u32)| Question { low, high }.row();
+    Case {
+        map_read: questions.iter().map(row).collect(),
+        ..Case::lending(Call::Reasons, image)
+    }
+}
+
+#[test]
+fn a_question_is_the_low_id_and_then_the_high_one() {
+    let case = asking(Vec::new(), &[(1, 2), (65_536 + 11, u32::MAX)]);
+    let mut stream = Vec::new();
+    case.write(&mut stream).expect("a stream in memory");
+    assert_eq!((stream[0], stream[12]), (b'W', 2));
+    let questions = [1, 0, 0, 0, 2, 0, 0, 0, 11, 0, 1, 0, 255, 255, 255, 255];
+    assert_eq!(stream[32..], questions);
+    let low_and_high = Question::from_row(case.map_read[1]);
+    assert_eq!(low_and_high.low, 65_547);
+    assert_eq!(low_and_high.high, u32::MAX);
+}
+
+#[test]
+fn the_line_of_figure_2_has_its_36_reasons() {
+    let reasons = [
+        [4, 3, 6, 1, 4, 1],
+        [4, 4, 6, 1, 4, 1],
+        [4, 4, 4, 4, 4, 4],
+        [4, 4, 1, 4, 4, 4],
+        [4, 1, 1, 6, 4, 3],
+        [4, 4, 1, 4, 4, 4],
+    ];
+    let digest = digest::of_bytes(reasons.into_iter().flatten());
+    let mut case = asking(table_image(&figure2()), &[(11, 12), (12, 23), (11, 65_548)]);
+    let line = format!("W 0 0 {digest} 8 0 2 23 0 3 | 0 0 3 | 0 0 1 | 15 0 0");
+    assert_eq!(answer(&mut case), line);
+}
+
+#[test]
+fn the_line_of_a_refused_table_has_no_reasons() {
+    let refused = |questions| answer(&mut asking(Vec::new(), questions));
+    assert_eq!(refused(&[]), "W 1 0 1 0 0 0 0 0 0");
+    assert_eq!(refused(&[(1, 0)]), "W 1 0 1 0 0 0 0 0 0 | 1 0 0");
+    let mut empty = asking(table_image(&Table::default()), &[(1, 1)]);
+    assert_eq!(answer(&mut empty), "W 0 0 1 0 0 0 0 0 0 | 15 0 0");
 }

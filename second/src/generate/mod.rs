@@ -12,6 +12,7 @@ mod misfits;
 mod patch_cases;
 mod patches;
 pub mod random;
+mod reason_cases;
 mod record_damage;
 mod rooms;
 mod run_cases;
@@ -87,6 +88,7 @@ impl Generator {
             Call::Bound => bound_cases::draw(&mut self.random),
             Call::Patch => self.run.next_case(&mut self.random),
             Call::Run => run_cases::draw(&mut self.random),
+            Call::Reasons => reason_cases::draw(&mut self.random),
         }
     }
 }

@@ -97,9 +97,16 @@ pub fn own_bounds(table: &Table) -> (Bounds, Vec<u16>) {
     bounds_with(table, &true_map(table))
 }
 
-/// By how much the jitter passes the distance of two tasks of one transaction, and by how much the
-/// response passes the wait until the upper task's next activation; above 0 the rule holds.
-pub fn margins(table: &Table, lower: &Task, upper: &Task) -> (i64, i64) {
+/// By how much a rule on times holds for two tasks of one transaction; above 0 it does.
+pub struct Margins {
+    /// By how much the upper task's jitter passes the distance.
+    pub jitter: i64,
+    /// By how much the lower task's response passes the wait until the upper task's next activation.
+    pub response: i64,
+}
+
+/// The margins of two tasks, worked out from the wait.
+pub fn margins(table: &Table, lower: &Task, upper: &Task) -> Margins {
     let is_own = |transaction: &&Transaction| transaction.number == lower.transaction;
     let own = table.transactions.iter().find(is_own);
     let period = i64::from(own.expect("a listed transaction").period);
@@ -110,7 +117,18 @@ pub fn margins(table: &Table, lower: &Task, upper: &Task) -> (i64, i64) {
         measured => i64::from(measured),
     };
     let unfinished_for = i64::from(lower.response) - i64::from(lower.offset);
-    (jitter - (period - wait), unfinished_for - wait)
+    Margins {
+        jitter: jitter - (period - wait),
+        response: unfinished_for - wait,
+    }
+}
+
+/// The numbers of an answer, or of the part of one before or behind a bar.
+pub fn numbers_in(part: &str) -> Vec<u32> {
+    part.trim_start_matches(char::is_alphabetic)
+        .split_whitespace()
+        .map(|number| number.parse().expect("a decimal number"))
+        .collect()
 }
 
 /// What an accepted patch leaves.
