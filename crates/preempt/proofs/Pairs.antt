@@ -7,30 +7,16 @@ use native.Mathlib.Omega.{arith}
 use borrow.Author.Tests.{eq-eqb, ne-eqb, eqb-true, eqb-false, ltb-true, ltb-false}
 use lib.Dec.{eqb, ltb}
 use lib.ListN.{length, getD}
-use Rattle.rules.specs.Numbers.{lowest, some}
+use Rattle.rules.specs.Numbers.{some}
 use Rattle.rules.specs.Records.{numberOf, secondOf, sortOf, tasks, pairs, taskCount, taskAt, placeOf}
 use Rattle.rules.specs.Preempt.{bars, barred, mapFrom}
-use Rattle.rules.proofs.Numbers.{either, lowest-zero, lowest-le, lowest-more, lowest-passes, some-true, some-false}
+use Rattle.rules.proofs.Numbers.{either, lowest-zero, some-more, some-false}
 use Rattle.rules.proofs.Table.Shape.{Shape}
 use Rattle.rules.proofs.Table.Listed.{Listed, number-at-place, place-below}
 use Rattle.rules.proofs.Maps.{map-ext}
 use Rattle.preempt.specs.Bits.{withPair}
 use Rattle.preempt.specs.Tasks.{barredMap}
 use Rattle.preempt.proofs.Maps.{map-with-pair}
-
--- some number below k + 1 passes a test where one below k does, or k itself
-pub some-step : (test : ℕ → Bool) (k : ℕ) → some test (k + 1) ≡ (some test k || test k)
-some-step test k =
-    either (ltb (lowest test k) k)
-    (λ t.
-    let found = ltb-true (lowest test k) k t in
-    rw t (some-true test (k + 1) (lowest test k) (omega arith) (lowest-passes test k found)))
-    (λ t.
-    let all : lowest test k ≡ k = omega (arith, ltb-false (lowest test k) k t, lowest-le test k) in
-    rw t
-    (either (test k)
-    (λ s. rw s (some-true test (k + 1) k (omega arith) s))
-    (λ s. rw s (some-false test (k + 1) (lowest-more test k all s)))))
 
 -- one of the first k pairs forbids that the task at place i is preempted by the one at place j
 abbrev pub barredTo : List (List ℕ) → ℕ → ℕ → ℕ → Bool
@@ -97,4 +83,4 @@ module _ (rs : List (List ℕ)) (shape : Shape rs) (named : Listed rs) where
         ∙ map-ext (taskCount rs) (λ i j. barredTo rs k i j || ((eqb i a && eqb j b) || (eqb (sortOf (getD (pairs rs) k [])) 1 && (eqb j a && eqb i b)))) (barredTo rs (k + 1))
         (λ i j l m.
         ap (λ (x : Bool). barredTo rs k i j || x) (sym (pair-bars i j l m))
-        ∙ sym (some-step (λ m. bars (getD (pairs rs) m []) (taskAt rs i .id) (taskAt rs j .id)) k))
+        ∙ sym (some-more (λ m. bars (getD (pairs rs) m []) (taskAt rs i .id) (taskAt rs j .id)) k))

@@ -1,9 +1,10 @@
 // The tasks of a table, read once into arrays by their places.
 ghost use mathlib.Core.Path.{_≡_};
 ghost use mathlib.Core.Bool.{true};
+ghost use Prim.Native.Nat.{_<_};
 ghost use lib.ListN.{length};
 ghost use Rattle.rules.specs.Blocks.{records};
-ghost use Rattle.rules.specs.Records.{jitterOf, taskOf, transactions, periodIn};
+ghost use Rattle.rules.specs.Records.{jitterOf, taskOf, transactions, taskCount, taskAt, periodIn};
 ghost use Rattle.rules.specs.Refusals.{accepted, tableVerdict};
 ghost use Rattle.preempt.specs.Tasks.{TasksRead};
 use image::bytes::four_bytes;
@@ -11,6 +12,7 @@ use image::bytes::two_bytes;
 use image::records::record_at;
 use rules::Task;
 use table::count::count_kind;
+use table::place::place_from;
 
 // Each field of the tasks by their places, and the period of each task's transaction; 0 beyond the tasks.
 pub struct Tasks {
@@ -47,21 +49,26 @@ pub fn task_of(fields: &[u8]) -> Task
     }
 }
 
+// The task at a place of an accepted table, which has as many transactions as are said to come first.
+pub fn task_at(image: &[u8], first: usize, place: usize) -> Task
+    requires { ⌜ accepted (tableVerdict (now image)) ≡ true ⌝ }
+    requires { ⌜ (first ≡ length (transactions (records (now image)))) × (place < taskCount (records (now image))) ⌝ }
+    ensures { λ r. ⌜ r ≡ taskAt (records (now (image .entry))) place ⌝ }
+{
+    task_of(record_at(image, first + place))
+}
+
 // The period of the transaction with this number, of the count that a table has, or 0 where it is not listed.
-fn period_in(image: &[u8], count: usize, number: u32) -> u32
+pub fn period_in(image: &[u8], count: usize, number: u32) -> u32
     requires { ⌜ accepted (tableVerdict (now image)) ≡ true ⌝ }
     requires { ⌜ count ≡ length (transactions (records (now image))) ⌝ }
     ensures { λ r. ⌜ r ≡ periodIn (records (now (image .entry))) number ⌝ }
 {
-    let mut k: usize = 0;
-    while k < count {
-        let fields = record_at(image, k);
-        if two_bytes(fields, 2) == number {
-            return four_bytes(fields, 8);
-        }
-        k += 1;
+    let place = place_from(image, 0, count, number);
+    if place == count {
+        return 0;
     }
-    0
+    four_bytes(record_at(image, place), 8)
 }
 
 // The tasks of an accepted table.
@@ -81,7 +88,7 @@ pub fn read_tasks(image: &[u8]) -> Tasks
     let mut periods = [0u32; 64];
     let mut i: usize = 0;
     while i < count {
-        let task = task_of(record_at(image, first + i));
+        let task = task_at(image, first, i);
         ids[i] = task.id;
         transactions[i] = task.transaction;
         priorities[i] = task.priority;

@@ -16,7 +16,7 @@ use Rattle.rules.proofs.Numbers.{either, lowest-le, lowest-ext, lowest-none, lo
 use Rattle.rules.proofs.Table.Standing.{transaction-record, task-record}
 use Rattle.rules.proofs.Table.Order.{Rises}
 use Rattle.rules.proofs.Table.Shape.{Shape, shape-of}
-use Rattle.table.specs.Numbers.{Rising, placeAmong, NumbersRead, Directory}
+use Rattle.table.specs.Numbers.{Rising, placeAmong, placeFrom, NumbersRead, Directory}
 
 -- one test, the other way round
 pub not-below : (a b : ℕ) → leb a b ≡ not (ltb b a)
@@ -57,15 +57,29 @@ place-in l numbers count d x =
     lowest-ext (λ k. eqb (getD numbers k 0) x) (λ k. eqb (numberOf (getD l k [])) x) count (λ k h. ap (λ (n : ℕ). eqb n x) (d .right k h))
     ∙ ap (lowest (λ k. eqb (numberOf (getD l k [])) x)) (d .counted)
 
+-- and so is a place among records of the image that are those in turn
+pub place-read : (l : List (List ℕ)) (image : List ℕ) (first count : ℕ) → count ≡ length l → ((k : ℕ) → k < count → recordAt image (first + k) ≡ getD l k [])
+    → (x : ℕ) → placeFrom image first count x ≡ placeOf l x
+place-read l image first count counted same x =
+    lowest-ext (λ k. eqb (numberOf (recordAt image (first + k))) x) (λ k. eqb (numberOf (getD l k [])) x) count (λ k h. ap (λ (r : List ℕ). eqb (numberOf r) x) (same k h))
+    ∙ ap (lowest (λ k. eqb (numberOf (getD l k [])) x)) counted
+
 -- a place at the count says that the number is not listed
-pub listed-is : (l : List (List ℕ)) (numbers : List ℕ) (count : ℕ) → Directory l numbers count → (x place : ℕ) → place ≡ placeAmong numbers count x
-    → eqb place count ≡ not (listed l x)
-listed-is l numbers count d x place e =
-    let here : place ≡ placeOf l x = e ∙ place-in l numbers count d x in
+pub place-unlisted : (l : List (List ℕ)) (x place count : ℕ) → place ≡ placeOf l x → count ≡ length l → eqb place count ≡ not (listed l x)
+place-unlisted l x place count here counted =
     let most = lowest-le (λ k. eqb (numberOf (getD l k [])) x) (length l) in
     either (ltb (placeOf l x) (length l))
-    (λ t. rw (t, ne-eqb place count (λ same. omega (arith, d .counted, ltb-true (placeOf l x) (length l) t))))
-    (λ t. rw (t, eq-eqb place count (omega (arith, d .counted, ltb-false (placeOf l x) (length l) t))))
+    (λ t. rw (t, ne-eqb place count (λ same. omega (arith, ltb-true (placeOf l x) (length l) t))))
+    (λ t. rw (t, eq-eqb place count (omega (arith, ltb-false (placeOf l x) (length l) t))))
+
+-- and any other is one of the list
+pub place-within : (l : List (List ℕ)) (x place count : ℕ) → place ≡ placeOf l x → count ≡ length l → (place ≡ count → ⊥) → place < length l
+place-within l x place count here counted other =
+    omega (arith, here, counted, other, lowest-le (λ k. eqb (numberOf (getD l k [])) x) (length l))
+
+pub listed-is : (l : List (List ℕ)) (numbers : List ℕ) (count : ℕ) → Directory l numbers count → (x place : ℕ) → place ≡ placeAmong numbers count x
+    → eqb place count ≡ not (listed l x)
+listed-is l numbers count d x place e = place-unlisted l x place count (e ∙ place-in l numbers count d x) (d .counted)
 
 -- numbers read from records that are the listed ones in turn are their directory
 pub directory-of : (l : List (List ℕ)) (image : List ℕ) (first count : ℕ) (numbers : List ℕ) → NumbersRead image first count numbers → count ≡ length l → count ≤ 64

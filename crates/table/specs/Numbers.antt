@@ -16,6 +16,10 @@ Rising numbers count = (i j : ℕ) → i < j → j < count → getD numbers i 0 
 abbrev pub placeAmong : List ℕ → ℕ → ℕ → ℕ
 placeAmong numbers count x = lowest (λ k. eqb (getD numbers k 0) x) count
 
+-- the place of a number among the bytes 2-3 of count records from first on, or count
+abbrev pub placeFrom : List ℕ → ℕ → ℕ → ℕ → ℕ
+placeFrom image first count x = lowest (λ k. eqb (numberOf (recordAt image (first + k))) x) count
+
 -- of count records from first on, bytes 2-3
 pub record NumbersRead (image : List ℕ) (first count : ℕ) (numbers : List ℕ) : Type 0 where
   pub size : length numbers ≡ 64

@@ -4,7 +4,7 @@ ghost use Prim.Native.Nat.{ℕ, _+_, _≤_, _<_};
 ghost use lib.ListN.{length, getD};
 ghost use Rattle.rules.specs.Blocks.{recordCount};
 ghost use Rattle.image.specs.Held.{HoldsRecords};
-ghost use Rattle.table.specs.Numbers.{Rising, placeAmong, NumbersRead};
+ghost use Rattle.table.specs.Numbers.{Rising, placeAmong, NumbersRead, placeFrom};
 use image::bytes::two_bytes;
 use image::records::record_at;
 
@@ -53,4 +53,19 @@ pub fn numbers_from(image: &[u8], first: usize, count: usize) -> [u32; 64]
         k += 1;
     }
     numbers
+}
+
+// The place of a number or id among count records from the first on, or count where none has it.
+pub fn place_from(image: &[u8], first: usize, count: usize, number: u32) -> usize
+    requires { ⌜ (first + count ≤ recordCount (now image)) × HoldsRecords (now image) ⌝ }
+    ensures { λ r. ⌜ r ≡ placeFrom (now (image .entry)) first count number ⌝ }
+{
+    let mut k: usize = 0;
+    while k < count {
+        if two_bytes(record_at(image, first + k), 2) == number {
+            return k;
+        }
+        k += 1;
+    }
+    count
 }

@@ -1,94 +1,55 @@
--- The loop keeps that no transaction passed has the number; the transactions stand at the front of the image.
-use Prim.Native.Nat.{ℕ, _-_, _≤_, _<_}
-use mathlib.Core.Bool.{Bool}
-use mathlib.Core.List.{List, []}
+-- The transactions stand at the front of the image, so the place among its records is the place among them.
+use Prim.Native.Nat.{ℕ, _<_}
+use mathlib.Core.List.{[]}
 use mathlib.Core.Path.{_≡_, ap, sym, _∙_}
 use native.Mathlib.Omega.{arith}
-use borrow.Author.Tests.{eq-eqb, ne-eqb}
 use borrow.Author.Needs.{needs}
 use lib.ListN.{length, getD, List·getD-eq-default}
-use lib.Dec.{eqb}
-use Rattle.rules.specs.Records.{numberOf, periodOf, transactions}
 use Rattle.rules.specs.Blocks.{records}
-use Rattle.rules.specs.Numbers.{lowest}
-use Rattle.rules.proofs.Numbers.{lowest-zero, lowest-more, lowest-here}
-use Rattle.preempt.proofs.Accepted.{record-whole, transaction-record}
+use Rattle.rules.specs.Records.{periodOf, transactions, placeOf}
+use Rattle.table.proofs.Counts.{table-held}
+use Rattle.table.proofs.Places.{place-within}
+use Rattle.preempt.proofs.Accepted.{kinds-counted, record-whole, transaction-record, transaction-placed}
 use Rattle.preempt.proofs.tasks.period_in.Statement.{statement}
 use Rattle.preempt.proofs.tasks.period_in.Tie as tie
 
--- whether transaction k has the number
-abbrev has : List ℕ → ℕ → ℕ → Bool
-has image number k = eqb (numberOf (getD (transactions (records image)) k [])) number
+-- the place that was found
+placed : (c : tie.After-place-from) → c .place-from .result ≡ placeOf (transactions (records (c .before .before .args .image .now))) (c .before .before .args .number)
+placed c =
+    let a = c .before .before .args in
+    c .place-from .ensures ∙ transaction-placed (a .image .now) (c .before .shared-slice-known .given) (c .before .before .pre .0) (a .count) (c .before .before .pre .1) (a .number)
 
-abbrev Inv-loop : tie.InvT-loop
-Inv-loop image count number k₀ k = (k ≤ count) × (lowest (has image number) k ≡ k)
+-- and, where it is not the count, that it is one of a transaction
+inside : (c : tie.Else1) → c .before .place-from .result < length (transactions (records (c .before .before .before .args .image .now)))
+inside c =
+    let a = c .before .before .before .args in
+    place-within (transactions (records (a .image .now))) (a .number) (c .before .place-from .result) (a .count) (placed (c .before)) (c .before .before .before .pre .1) (c .if1 .left)
 
-abbrev μ-loop : tie.MeasureT-loop
-μ-loop image count number k₀ k = count - k
+place-from-requires : tie.Need-place-from-requires
+place-from-requires c κs =
+    let image = c .before .args .image .now in
+    (omega (arith, kinds-counted image (c .shared-slice-known .given) (c .before .pre .0), c .before .pre .1), table-held image (c .before .pre .0))
 
--- the record that was read is transaction k
-read : (c : tie.After-two-bytes Inv-loop μ-loop) → c .before .record-at .result .now ≡ getD (transactions (records (c .before .before .before .before .before .args .image .now))) (c .before .before .before .loop .k) []
-read c = c .before .record-at .ensures ∙ transaction-record (c .before .before .before .before .before .args .image .now) (c .before .before .before .before .shared-slice-known .given) (c .before .before .before .before .before .pre .0) (c .before .before .before .loop .k) (omega arith)
+returns : tie.Need-returns
+returns c =
+    let l = transactions (records (c .before .before .before .args .image .now)) in
+    sym (ap periodOf (List·getD-eq-default l [] (omega (arith, placed (c .before), c .if1 .taken, c .before .before .before .pre .1))))
 
-loop-holds : tie.Need-loop-holds Inv-loop μ-loop
-loop-holds c = (omega arith, lowest-zero _)
+record-at-requires : tie.Need-record-at-requires
+record-at-requires c κs =
+    record-whole (c .before .before .before .args .image .now) (c .before .before .shared-slice-known .given) (c .before .before .before .pre .0) (c .before .place-from .result) (omega (arith, inside c))
 
-record-at-requires : tie.Need-record-at-requires Inv-loop μ-loop
-record-at-requires c κs = record-whole (c .before .before .before .args .image .now) (c .before .before .shared-slice-known .given) (c .before .before .before .pre .0) (c .before .loop .k) (omega arith)
-
-two-bytes-requires : tie.Need-two-bytes-requires Inv-loop μ-loop
-two-bytes-requires c κs = search needs
-
-four-bytes-requires : tie.Need-four-bytes-requires Inv-loop μ-loop
+four-bytes-requires : tie.Need-four-bytes-requires
 four-bytes-requires c κs = search needs
 
-returns : tie.Need-returns Inv-loop μ-loop
-returns c =
-    let same = read (c .before .before) in
-    let image = c .before .before .before .before .before .before .before .args .image .now in
-    let number = c .before .before .before .before .before .before .before .args .number in
-    let k = c .before .before .before .before .before .loop .k in
-    let l = transactions (records image) in
-    let inside : k < length l = omega arith in
-    let passes = eq-eqb (numberOf (getD l k [])) number (ap numberOf (sym same) ∙ sym (c .before .before .two-bytes .ensures .0) ∙ c .before .if1 .taken) in
-    c .four-bytes .ensures ∙ ap periodOf same ∙ ap (λ (p : ℕ). periodOf (getD l p [])) (sym (lowest-here (has image number) k (length l) (c .before .before .before .before .before .loop .inv .1) passes inside))
-
-add-k : tie.Need-add-k Inv-loop μ-loop
-add-k c = search needs
-
-loop-less : tie.Need-loop-less Inv-loop μ-loop
-loop-less c = search needs
-
-loop-again : tie.Need-loop-again Inv-loop μ-loop
-loop-again c =
-    let same = read (c .before) in
-    let image = c .before .before .before .before .before .before .args .image .now in
-    let number = c .before .before .before .before .before .before .args .number in
-    let k = c .before .before .before .before .loop .k in
-    let fails = ne-eqb (numberOf (getD (transactions (records image)) k [])) number (λ e. c .if1 .left (c .before .two-bytes .ensures .0 ∙ ap numberOf same ∙ e)) in
-    (omega arith, lowest-more (has image number) k (c .before .before .before .before .loop .inv .1) fails)
-
-returns-2 : tie.Need-returns-2 Inv-loop μ-loop
+returns-2 : tie.Need-returns-2
 returns-2 c =
-    let image = c .before .before .before .args .image .now in
-    let number = c .before .before .before .args .number in
-    let l = transactions (records image) in
-    let end : c .before .loop .k ≡ length l = omega arith in
-    let none : lowest (has image number) (length l) ≡ length l = rw end at (c .before .loop .inv .1) in
-    sym (ap periodOf (List·getD-eq-default l [] (omega arith)))
+    let start = c .before .before .before .before .before in
+    let found = c .before .before .before in
+    let l = transactions (records (start .args .image .now)) in
+    c .four-bytes .ensures
+    ∙ ap periodOf (c .before .record-at .ensures ∙ transaction-record (start .args .image .now) (found .before .shared-slice-known .given) (start .pre .0) (found .place-from .result) (inside (c .before .before)))
+    ∙ ap (λ (p : ℕ). periodOf (getD l p [])) (placed found)
 
 pub period-in-spec : {M : Type 1} → statement M
-period-in-spec =
-    tie.close
-    (tie.spec
-    Inv-loop
-    μ-loop
-    loop-holds
-    record-at-requires
-    two-bytes-requires
-    four-bytes-requires
-    returns
-    add-k
-    loop-less
-    loop-again
-    returns-2)
+period-in-spec = tie.close (tie.spec place-from-requires returns record-at-requires four-bytes-requires returns-2)

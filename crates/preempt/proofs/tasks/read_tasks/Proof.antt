@@ -1,15 +1,15 @@
 -- The loop keeps each array filled up to the next place; the tasks stand behind the transactions.
-use Prim.Native.Nat.{ℕ, _+_, _-_, _≤_, _<_}
+use Prim.Native.Nat.{ℕ, _-_, _≤_}
 use mathlib.Core.List.{List}
 use mathlib.Core.Path.{_≡_, ap, _∙_}
 use native.Mathlib.Omega.{arith}
 use borrow.Author.Needs.{needs}
 use Rattle.table.proofs.Counts.{records-accepted, table-held}
 use Rattle.rules.specs.declared.Task.{Task}
-use Rattle.rules.specs.Records.{taskOf, taskCount, taskAt, periodIn}
-use Rattle.rules.specs.Blocks.{records, recordAt}
+use Rattle.rules.specs.Records.{taskCount, taskAt, periodIn}
+use Rattle.rules.specs.Blocks.{records}
 use Rattle.preempt.specs.Bits.{column}
-use Rattle.preempt.proofs.Accepted.{shape, record-whole, task-record}
+use Rattle.preempt.proofs.Accepted.{shape}
 use Rattle.preempt.proofs.Columns.{column-none, column-filled}
 use Rattle.preempt.proofs.tasks.read_tasks.Statement.{statement}
 use Rattle.preempt.proofs.tasks.read_tasks.Tie as tie
@@ -54,14 +54,6 @@ Inv-loop image first count ids₀ transactions₀ priorities₀ offsets₀ jitte
 abbrev μ-loop : tie.MeasureT-loop
 μ-loop image first count ids₀ transactions₀ priorities₀ offsets₀ jitters₀ responses₀ sizes₀ periods₀ i₀ ids transactions priorities offsets jitters responses sizes periods i = count - i
 
--- what was read is the task at that place
-read : (c : tie.After-task-of Inv-loop μ-loop) → c .task-of .result ≡ taskAt (records (c .before .before .before .before .before .before .before .args .image .now)) (c .before .before .before .loop .i)
-read c =
-    let image = c .before .before .before .before .before .before .before .args .image .now in
-    let i = c .before .before .before .loop .i in
-    let inside : i < taskCount (records image) = omega (arith, c .before .before .before .before .count-kind2 .ensures .0) in
-    c .task-of .ensures ∙ ap taskOf (c .before .record-at .ensures ∙ ap (λ (n : ℕ). recordAt image (n + i)) (c .before .before .before .before .before .count-kind .ensures .0) ∙ task-record image (c .before .before .before .before .before .before .shared-slice-known .given) (c .before .before .before .before .before .before .before .pre) i inside)
-
 count-kind-requires : tie.Need-count-kind-requires Inv-loop μ-loop
 count-kind-requires c κs = ((records-accepted (c .before .args .image .now) (c .before .pre), omega arith), table-held (c .before .args .image .now) (c .before .pre))
 
@@ -74,15 +66,9 @@ loop-holds c =
     let s = shape image (c .before .before .shared-slice-known .given) (c .before .before .before .pre) in
     (omega arith, omega (arith, c .before .count-kind .ensures .0, s .few-transactions), omega (arith, c .count-kind2 .ensures .0, s .few-tasks), column-none (id-of image), column-none (transaction-of image), column-none (priority-of image), column-none (offset-of image), column-none (jitter-of image), column-none (response-of image), column-none (size-of image), column-none (period-of image))
 
-add-record-at : tie.Need-add-record-at Inv-loop μ-loop
-add-record-at c = search needs
-
-record-at-requires : tie.Need-record-at-requires Inv-loop μ-loop
-record-at-requires c κs =
-    record-whole (c .before .before .before .before .before .args .image .now) (c .before .before .before .before .shared-slice-known .given) (c .before .before .before .before .before .pre) (c .before .before .before .count-kind .result + c .before .loop .i) (omega (arith, c .before .before .count-kind2 .ensures .0))
-
-task-of-requires : tie.Need-task-of-requires Inv-loop μ-loop
-task-of-requires c κs = search needs
+task-at-requires : tie.Need-task-at-requires Inv-loop μ-loop
+task-at-requires c κs =
+    (c .before .before .before .before .before .pre, (c .before .before .before .count-kind .ensures .0, omega (arith, c .before .before .count-kind2 .ensures .0)))
 
 mul-ids : tie.Need-mul-ids Inv-loop μ-loop
 mul-ids c = search needs
@@ -127,7 +113,7 @@ array-write-sizes : tie.Need-array-write-sizes Inv-loop μ-loop
 array-write-sizes c = search needs
 
 period-in-requires : tie.Need-period-in-requires Inv-loop μ-loop
-period-in-requires c κs = (c .before .before .before .before .before .before .before .pre, c .before .before .before .before .before .count-kind .ensures .0)
+period-in-requires c κs = (c .before .before .before .before .before .before .pre, c .before .before .before .before .count-kind .ensures .0)
 
 mul-periods : tie.Need-mul-periods Inv-loop μ-loop
 mul-periods c = search needs
@@ -143,9 +129,9 @@ loop-less c = search needs
 
 loop-again : tie.Need-loop-again Inv-loop μ-loop
 loop-again c =
-    let image = c .before .before .before .before .before .before .before .before .args .image .now in
-    let s = c .before .before .before .before .loop in
-    let here = read (c .before) in (
+    let image = c .before .before .before .before .before .before .before .args .image .now in
+    let s = c .before .before .before .loop in
+    let here = c .before .task-at .ensures in (
       omega arith,
       omega arith,
       omega arith,
@@ -185,9 +171,7 @@ read-tasks-spec =
     count-kind-requires
     count-kind-requires-2
     loop-holds
-    add-record-at
-    record-at-requires
-    task-of-requires
+    task-at-requires
     mul-ids
     array-write-ids
     mul-transactions
