@@ -3,7 +3,7 @@ use Prim.Native.Nat.{ℕ, _<_}
 use mathlib.Core.Bool.{Bool, true, false, _&&_, not}
 use mathlib.Core.Path.{_≡_, refl}
 use native.Mathlib.Omega.{arith}
-use borrow.Author.Tests.{eqb-true, lt-ltb, le-ltb, ne-eqb}
+use borrow.Author.Tests.{eqb-true, lt-ltb, le-ltb, eq-eqb, ne-eqb}
 use Rattle.rules.specs.declared.Form.{Form}
 use Rattle.rules.specs.declared.Form.the-variants.{Table, Patch}
 use Rattle.rules.specs.declared.Verdict.{Verdict}
@@ -15,6 +15,13 @@ use Rattle.rules.proofs.Numbers.{either, lowest-none, some-fails, some-
 pub numbered-some : (form : Form) (n : ℕ) → 0 < n → 0 < numbered form n
 numbered-some Table n h = h
 numbered-some Patch n h = omega arith
+
+-- a verdict that was worked out is accepted where its number is 0, and refused where it is not
+pub zero-accepted : (v w : Verdict) → v ≡ w → v .number ≡ 0 → accepted w ≡ true
+zero-accepted v w same zero = rw (← same) (eq-eqb (v .number) 0 zero)
+
+pub other-refused : (v w : Verdict) → v ≡ w → (v .number ≡ 0 → ⊥) → accepted w ≡ false
+other-refused v w same other = rw (← same) (ne-eqb (v .number) 0 other)
 
 -- two checks, one after the other, are accepted where both are
 pub accepted-first : (v w : Verdict) → accepted (orElse v w) ≡ true → accepted v ≡ true

@@ -105,6 +105,11 @@ records-accepted image table =
     accepted-first (recordsVerdict Table (records image)) (referenceRefusal (records image))
     (accepted-second (frameVerdict Table image) (orElse (recordsVerdict Table (records image)) (referenceRefusal (records image))) table)
 
+-- which is what counting its records of a kind asks for
+pub count-asked : (image : List ℕ) → accepted (tableVerdict image) ≡ true → (kind : ℕ) → kind ≤ 3
+    → ((accepted (recordsVerdict Table (records image)) ≡ true) × (kind ≤ 3)) × HoldsRecords image
+count-asked image table kind few = ((records-accepted image table, few), table-held image table)
+
 -- the kinds of accepted records do not fall
 pub kinds-grouped : (image : List ℕ) → Bytes image → accepted (recordsVerdict Table (records image)) ≡ true → Grouped (records image)
 kinds-grouped image bytes right i j b l =

@@ -4,7 +4,7 @@ use mathlib.Core.List.{List}
 use mathlib.Core.Bool.{true, false, _||_}
 use mathlib.Core.Path.{_≡_, refl, ap, sym, _∙_}
 use native.Mathlib.Omega.{arith}
-use borrow.Author.Tests.{eq-eqb, ne-eqb, ltb-false}
+use borrow.Author.Tests.{ltb-false}
 use lib.Dec.{ltb}
 use lib.ListN.{length, take}
 use lib.Seq.{length-take-le}
@@ -14,6 +14,7 @@ use Rattle.rules.specs.Patches.{touchedCount}
 use Rattle.rules.specs.Refusals.{accepted, refusal, tableVerdict}
 use Rattle.rules.specs.Calls.{over}
 use Rattle.rules.proofs.Tests.{neither-first, neither-second}
+use Rattle.rules.proofs.Refusals.{zero-accepted, other-refused}
 use Rattle.patch.specs.Call.{acceptedPatch}
 use Rattle.table.proofs.Counts.{patch-held}
 use Rattle.patch.proofs.Calling.{bothVerdict, isShort, both-table, both-patch, both-present, call-refused, call-broken, call-short, call-fine, patch-refused, patch-accepted, refused-broken, accepted-whole, accepted-image, accepted-records, accepted-length}
@@ -23,11 +24,11 @@ use Rattle.patch.proofs.call.apply_in.Tie as tie
 
 -- the checks that need no outcome are passed
 passed : (base patch : List ℕ) (v : Verdict) → v ≡ bothVerdict base patch → v .number ≡ 0 → accepted (bothVerdict base patch) ≡ true
-passed base patch v e h = eq-eqb _ 0 (ap (λ (w : Verdict). w .number) (sym e) ∙ h)
+passed base patch v e h = zero-accepted _ _ e h
 
 -- and so is the verdict on the outcome's image
 judged : (image : List ℕ) (v : Verdict) → v ≡ tableVerdict image → v .number ≡ 0 → accepted (tableVerdict image) ≡ true
-judged image v e h = eq-eqb _ 0 (ap (λ (w : Verdict). w .number) (sym e) ∙ h)
+judged image v e h = zero-accepted _ _ e h
 
 verdict-of-both-requires : tie.Need-verdict-of-both-requires
 verdict-of-both-requires c κs = search needs
@@ -39,7 +40,7 @@ returns : tie.Need-returns
 returns c =
     let a = c .before .before .before .before .before .before .before .before .before .before .args in
     let verdict = c .before .before .before .verdict-of-both .ensures in
-    let refused : accepted (bothVerdict (a .base .now) (a .patch .now)) ≡ false = ne-eqb _ 0 (λ e. c .before .if1 .taken (ap (λ (v : Verdict). v .number) verdict ∙ e)) in
+    let refused : accepted (bothVerdict (a .base .now) (a .patch .now)) ≡ false = other-refused _ _ verdict (c .before .if1 .taken) in
     rw (c .refused .ensures, verdict)
     (patch-refused (a .base .now) (a .patch .now) (a .map .now) (a .room .now) (a .carried .now) (bothVerdict (a .base .now) (a .patch .now)) (call-refused (a .base .now) (a .patch .now) (a .map .now) (a .room .now) (a .carried .now) refused) refused)
 
@@ -71,7 +72,7 @@ returns-2 c =
     let made = c .before .before .before .before .before .before .before .write-outcome .ensures in
     let n = c .before .before .before .before .before .before .before .write-outcome .result in
     let later = c .before .before .before .before .before .before .before .write-outcome .last .1 .1 .0 in
-    let refused : accepted (tableVerdict (take n later)) ≡ false = ne-eqb _ 0 (λ e. c .before .if2 .taken (ap (λ (v : Verdict). v .number) (c .before .before .before .table-verdict .ensures) ∙ e)) in
+    let refused : accepted (tableVerdict (take n later)) ≡ false = other-refused _ _ (c .before .before .before .table-verdict .ensures) (c .before .if2 .taken) in
     let broken = refused-broken (a .base .now) (a .patch .now) both n (a .space .now) later made refused in
     rw (c .refused2 .ensures)
     (patch-refused (a .base .now) (a .patch .now) (a .map .now) (a .room .now) (a .carried .now) (refusal 10 0) (call-broken (a .base .now) (a .patch .now) (a .map .now) (a .room .now) (a .carried .now) both broken) refl)

@@ -7,7 +7,7 @@ use native.Mathlib.Omega.{arith}
 use borrow.Author.Needs.{needs}
 use lib.Dec.{eqb}
 use lib.ListN.{length, getD}
-use Rattle.table.proofs.Counts.{records-accepted, table-held}
+use Rattle.table.proofs.Counts.{records-accepted, table-held, count-asked}
 use Rattle.rules.proofs.Table.Kinds.{length-split}
 use Rattle.preempt.proofs.Accepted.{shape}
 use Rattle.rules.specs.Numbers.{Bytes}
@@ -35,10 +35,10 @@ abbrev μ-loop : tie.MeasureT-loop
 μ-loop base ids count first known base-ids places₀ i₀ places i = count - i
 
 count-kind-requires : tie.Need-count-kind-requires Inv-loop μ-loop
-count-kind-requires c κs = ((records-accepted (c .before .before .args .base .now) (c .before .before .pre .0), omega arith), table-held (c .before .before .args .base .now) (c .before .before .pre .0))
+count-kind-requires c κs = count-asked (c .before .before .args .base .now) (c .before .before .pre .0) _ (omega arith)
 
 count-kind-requires-2 : tie.Need-count-kind-requires-2 Inv-loop μ-loop
-count-kind-requires-2 c κs = ((records-accepted (c .before .before .before .args .base .now) (c .before .before .before .pre .0), omega arith), table-held (c .before .before .before .args .base .now) (c .before .before .before .pre .0))
+count-kind-requires-2 c κs = count-asked (c .before .before .before .args .base .now) (c .before .before .before .pre .0) _ (omega arith)
 
 numbers-from-requires : tie.Need-numbers-from-requires Inv-loop μ-loop
 numbers-from-requires c κs =

@@ -5,7 +5,7 @@ use mathlib.Core.List.{List, []}
 use native.Mathlib.Omega.{arith}
 use borrow.Author.Needs.{needs}
 use lib.ListN.{length, getD}
-use Rattle.table.proofs.Counts.{records-accepted, table-held}
+use Rattle.table.proofs.Counts.{count-asked}
 use Rattle.rules.specs.Records.{numberOf, secondOf, sortOf, placeOf, transactions, pairs, tasks, taskCount}
 use Rattle.rules.specs.Blocks.{recordAt, records}
 use Rattle.rules.specs.Preempt.{mapFrom}
@@ -81,13 +81,13 @@ counts : (rs : List (List ℕ)) (k : ℕ) (rows : List ℕ) → rows ≡ mapFrom
 counts rs k rows e = sym (ap length e ∙ map-length (taskCount rs) (barredTo rs k))
 
 count-kind-requires : tie.Need-count-kind-requires Inv-loop μ-loop
-count-kind-requires c κs = ((records-accepted (c .before .before .args .image .now) (c .before .before .pre .0), omega arith), table-held (c .before .before .args .image .now) (c .before .before .pre .0))
+count-kind-requires c κs = count-asked (c .before .before .args .image .now) (c .before .before .pre .0) _ (omega arith)
 
 add-first : tie.Need-add-first Inv-loop μ-loop
 add-first c = omega (arith, c .count-kind .ensures .0, shaped c .few-transactions, c .before .before .before .pre .1 .counted, shaped c .few-tasks)
 
 count-kind-requires-2 : tie.Need-count-kind-requires-2 Inv-loop μ-loop
-count-kind-requires-2 c κs = ((records-accepted (c .before .before .before .args .image .now) (c .before .before .before .pre .0), omega arith), table-held (c .before .before .before .args .image .now) (c .before .before .before .pre .0))
+count-kind-requires-2 c κs = count-asked (c .before .before .before .args .image .now) (c .before .before .before .pre .0) _ (omega arith)
 
 loop-holds : tie.Need-loop-holds Inv-loop μ-loop
 loop-holds c =

@@ -2,8 +2,7 @@
 use Prim.Native.Nat.{ℕ}
 use mathlib.Core.List.{List}
 use mathlib.Core.Bool.{true, false}
-use mathlib.Core.Path.{_≡_, ap, sym, _∙_}
-use borrow.Author.Tests.{eq-eqb, ne-eqb}
+use mathlib.Core.Path.{_≡_, ap, _∙_}
 use borrow.Author.Needs.{needs}
 use lib.ListN.{length}
 use Rattle.rules.specs.Calls.{over}
@@ -11,15 +10,15 @@ use Rattle.rules.specs.Refusals.{accepted, tableVerdict}
 use Rattle.rules.specs.Records.{taskCount}
 use Rattle.rules.specs.Preempt.{decided}
 use Rattle.rules.specs.Blocks.{records}
-use Rattle.rules.specs.declared.Verdict.{Verdict}
 use Rattle.rules.proofs.Maps.{map-length}
+use Rattle.rules.proofs.Refusals.{zero-accepted, other-refused}
 use Rattle.preempt.proofs.Calls.{map-refused, map-short, map-filled}
 use Rattle.preempt.proofs.map.fill_map.Statement.{statement}
 use Rattle.preempt.proofs.map.fill_map.Tie as tie
 
 -- the table is accepted
 right : (c : tie.Else1) → accepted (tableVerdict (c .before .before .before .before .before .args .image .now)) ≡ true
-right c = eq-eqb _ 0 (ap (λ (v : Verdict). v .number) (sym (c .before .before .table-verdict .ensures)) ∙ c .if1 .left)
+right c = zero-accepted _ _ (c .before .before .table-verdict .ensures) (c .if1 .left)
 
 table-verdict-requires : tie.Need-table-verdict-requires
 table-verdict-requires c κs = search needs
@@ -28,7 +27,7 @@ returns : tie.Need-returns
 returns c =
     let a = c .before .before .before .before .before .args in
     let verdict = c .before .before .table-verdict .ensures in
-    let refused : accepted (tableVerdict (a .image .now)) ≡ false = ne-eqb _ 0 (λ e. c .if1 .taken (ap (λ (v : Verdict). v .number) verdict ∙ e)) in
+    let refused : accepted (tableVerdict (a .image .now)) ≡ false = other-refused _ _ verdict (c .if1 .taken) in
     let call = map-refused (a .image .now) (a .rows .now) refused in
     (verdict ∙ call .0, call .1)
 

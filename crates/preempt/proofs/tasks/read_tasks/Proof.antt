@@ -4,7 +4,7 @@ use mathlib.Core.List.{List}
 use mathlib.Core.Path.{_≡_, ap, _∙_}
 use native.Mathlib.Omega.{arith}
 use borrow.Author.Needs.{needs}
-use Rattle.table.proofs.Counts.{records-accepted, table-held}
+use Rattle.table.proofs.Counts.{count-asked}
 use Rattle.rules.specs.declared.Task.{Task}
 use Rattle.rules.specs.Records.{taskCount, taskAt, periodIn}
 use Rattle.rules.specs.Blocks.{records}
@@ -55,10 +55,10 @@ abbrev μ-loop : tie.MeasureT-loop
 μ-loop image first count ids₀ transactions₀ priorities₀ offsets₀ jitters₀ responses₀ sizes₀ periods₀ i₀ ids transactions priorities offsets jitters responses sizes periods i = count - i
 
 count-kind-requires : tie.Need-count-kind-requires Inv-loop μ-loop
-count-kind-requires c κs = ((records-accepted (c .before .args .image .now) (c .before .pre), omega arith), table-held (c .before .args .image .now) (c .before .pre))
+count-kind-requires c κs = count-asked (c .before .args .image .now) (c .before .pre) _ (omega arith)
 
 count-kind-requires-2 : tie.Need-count-kind-requires-2 Inv-loop μ-loop
-count-kind-requires-2 c κs = ((records-accepted (c .before .before .args .image .now) (c .before .before .pre), omega arith), table-held (c .before .before .args .image .now) (c .before .before .pre))
+count-kind-requires-2 c κs = count-asked (c .before .before .args .image .now) (c .before .before .pre) _ (omega arith)
 
 loop-holds : tie.Need-loop-holds Inv-loop μ-loop
 loop-holds c =

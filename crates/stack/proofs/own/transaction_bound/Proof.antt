@@ -1,5 +1,5 @@
 -- The loop keeps the bounds of the transactions passed and their sum, which is never above what all tasks weigh.
-use Rattle.table.proofs.Counts.{records-accepted, table-held}
+use Rattle.table.proofs.Counts.{count-asked}
 use Prim.Native.Nat.{ℕ, _+_, _-_, _≤_, _<_}
 use mathlib.Core.List.{List, []}
 use mathlib.Core.Path.{_≡_, ap, subst, _∙_}
@@ -25,7 +25,7 @@ abbrev μ-loop : tie.MeasureT-loop
 μ-loop image numbers rows sizes order count transactions total₀ t₀ total t = transactions - t
 
 count-kind-requires : tie.Need-count-kind-requires Inv-loop μ-loop
-count-kind-requires c κs = ((records-accepted (c .before .before .before .before .before .args .image .now) (c .before .before .before .before .before .pre .0), omega arith), table-held (c .before .before .before .before .before .args .image .now) (c .before .before .before .before .before .pre .0))
+count-kind-requires c κs = count-asked (c .before .before .before .before .before .args .image .now) (c .before .before .before .before .before .pre .0) _ (omega arith)
 
 loop-holds : tie.Need-loop-holds Inv-loop μ-loop
 loop-holds c =
