@@ -4,7 +4,7 @@
  *     reserve TABLE PATCH OTHER
  *
  * reads a table image and two patch images. It applies PATCH to the table, then PATCH once more to the outcome, and OTHER
- * to the table, and prints what each call answers.
+ * to the table, asks for the reason of a task that no table lists, and prints what each call answers.
  */
 #include <inttypes.h>
 #include <stdio.h>
@@ -62,7 +62,21 @@ static int is_accepted(const char *call, uint32_t number, uint32_t place)
     return 0;
 }
 
-/* Prints the reserve of a table, the chain of tasks that reaches it, and the other bounds. */
+/* Prints why two neighbours of a chain nest. */
+static void print_reason(const table *of, uint16_t low, uint16_t high)
+{
+    static const char *const words[] = {
+        [SIODLOMIL_REASON_TRANSACTION] = "transaction", [SIODLOMIL_REASON_JITTER] = "jitter",
+        [SIODLOMIL_REASON_RESPONSE] = "response",       [SIODLOMIL_REASON_PRIORITY] = "priority",
+        [SIODLOMIL_REASON_PAIR] = "pair",               [SIODLOMIL_REASON_TIMING] = "timing",
+    };
+    siodlomil_reason_answer answer = siodlomil_reason(of->image, of->bytes, low, high);
+    if (answer.number == 0) {
+        printf("  %u %u %s\n", (unsigned)low, (unsigned)high, words[answer.reason]);
+    }
+}
+
+/* Prints the reserve of a table, the chain of tasks that reaches it with the reasons, and the other bounds. */
 static void print_reserve(const table *of)
 {
     uint16_t ids[SIODLOMIL_CHAIN_IDS];
@@ -77,6 +91,9 @@ static void print_reserve(const table *of)
     }
     printf("\n  tasks %" PRIu32 ", path %" PRIu32 ", transactions %" PRIu32 ", levels %" PRIu32 "\n", answer.tasks,
            answer.path, answer.transactions, answer.levels);
+    for (uint32_t i = 0; i + 1 < answer.length; i++) {
+        print_reason(of, ids[i], ids[i + 1]);
+    }
 }
 
 /* Applies a patch to a base and returns whether the outcome is a table. */
@@ -128,5 +145,7 @@ int main(int count, char **words)
     if (!apply("the other patch", &before, &other, &again)) {
         print_offending(&before, &other);
     }
+    siodlomil_reason_answer reason = siodlomil_reason(before.image, before.bytes, 0, 0);
+    is_accepted("the reason of a task that is not listed", reason.number, reason.place);
     return EXIT_SUCCESS;
 }

@@ -1,5 +1,6 @@
 /*
- * Siodlomil from C: who may preempt whom in a task table, how much stack the tasks need at most, and patches to a table.
+ * Siodlomil from C: who may preempt whom in a task table and why, how much stack the tasks need at most, and patches to a
+ * table.
  *
  * Link with libsiodlomil.a, which `rt staticlib siodlomil` writes to target/staticlib/. It is for x86-64 Linux and uses
  * memcpy and memset of the C library, and nothing else. Every function in it is proved to meet its promise for every
@@ -32,6 +33,7 @@
  *    9      a record to take out is not in the base, byte for byte                  patch record
  *   10      the outcome of a patch breaks order, 7 or 8                             0
  *   11      a lent map or room is too short                                         0
+ *   15      an id that is asked for is not listed                                   0
  *   21-27   1 to 7 for a patch: 23,040 bytes at most (21); byte 31 of a record
  *           neither 0 nor 1 (24); too many taken out, or too many put in (27)       as for 1 to 7
  *
@@ -64,6 +66,16 @@ extern "C" {
 /* The entries of a room for a chain's ids. */
 #define SIODLOMIL_CHAIN_IDS 64
 
+/* Why a task may be preempted by another: the first of these rules that holds. */
+#define SIODLOMIL_REASON_TRANSACTION 1 /* they are of different transactions */
+#define SIODLOMIL_REASON_JITTER 2      /* the jitter of the high task is above the distance of their offsets */
+#define SIODLOMIL_REASON_RESPONSE 3    /* the low task may not yet have ended when the high one is activated again */
+
+/* Why it may not: the first of these rules that forbids it. */
+#define SIODLOMIL_REASON_PRIORITY 4 /* the high task has no higher priority; so a task with itself */
+#define SIODLOMIL_REASON_PAIR 5     /* a pair record forbids it */
+#define SIODLOMIL_REASON_TIMING 6   /* neither jitter nor response reaches */
+
 /* What siodlomil_map answers. */
 typedef struct siodlomil_map_answer {
     uint32_t number;
@@ -81,6 +93,13 @@ typedef struct siodlomil_bounds_answer {
     uint32_t levels;       /* the levels bound */
     uint32_t length;       /* how many ids of the chain are written */
 } siodlomil_bounds_answer;
+
+/* What siodlomil_reason answers. */
+typedef struct siodlomil_reason_answer {
+    uint32_t number;
+    uint32_t place;
+    uint32_t reason; /* one of SIODLOMIL_REASON_..., or 0 where the call is refused */
+} siodlomil_reason_answer;
 
 /* What siodlomil_patch answers. */
 typedef struct siodlomil_patch_answer {
@@ -120,6 +139,18 @@ siodlomil_map_answer siodlomil_map(const uint8_t *image, size_t image_bytes, uin
  */
 siodlomil_bounds_answer siodlomil_bounds(const uint8_t *image, size_t image_bytes, const uint64_t *map, size_t map_rows,
                                          uint16_t *ids, size_t ids_entries);
+
+/*
+ * Why the task low may be preempted by the task high, or why not: refusals 1 to 8, then 15.
+ *
+ * image  read: the table image.
+ * low    the id of one task. An id that the table does not list is refusal 15; 0 and numbers above 65,535 are never listed.
+ * high   the id of the other, likewise.
+ *
+ * The bit of the two in the table's map is set exactly where the reason is one of the first three. With low and high
+ * exchanged it is another question.
+ */
+siodlomil_reason_answer siodlomil_reason(const uint8_t *image, size_t image_bytes, uint32_t low, uint32_t high);
 
 /*
  * Applies a patch image to a table image: refusals 1 to 8 for the base, 21 to 27 for the patch, then 9, 10 and 11.

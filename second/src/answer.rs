@@ -5,7 +5,7 @@ use crate::bound_call::{bound_call, Bounds, ID_ENTRIES};
 use crate::digest;
 use crate::map_call::map_call;
 use crate::patch_call::{patch_call, PatchRefusal, Patched};
-use crate::preempt::all_reasons;
+use crate::preempt::{all_reasons, MAP_ROWS};
 use crate::reason_call::reason_call;
 use crate::reasons::Reason;
 use crate::stream::question::Question;
@@ -152,17 +152,28 @@ fn standing_numbers(standing: &Standing) -> Vec<u64> {
 /// The verdict of the table, the digest of all its reasons, and how many pairs each reason has.
 fn reason_numbers(case: &Case) -> Vec<u64> {
     let records = records_of_table(&case.image);
-    let reasons = match &records {
-        Ok(records) => all_reasons(&Table::read(records)),
-        Err(_) => Vec::new(),
+    let table = records.as_ref().map(|records| Table::read(records));
+    let bytes = reason_bytes(&table.unwrap_or_default());
+    let pairs_with = |reason: Reason| {
+        bytes
+            .iter()
+            .filter(|byte| **byte == reason.number())
+            .count()
     };
-    let pairs_with = |reason: Reason| reasons.iter().filter(|given| **given == reason).count();
     let mut numbers = verdict_numbers(records);
-    numbers.push(digest::of_bytes(
-        reasons.iter().map(|reason| reason.number()),
-    ));
+    numbers.push(digest::of_bytes(bytes));
     numbers.extend(Reason::ALL.map(|reason| pairs_with(reason) as u64));
     numbers
+}
+
+/// The numbers of a table's reasons, those of places i and j at 64 · i + j; 0 where one of them holds no task.
+fn reason_bytes(table: &Table) -> [u8; MAP_ROWS * MAP_ROWS] {
+    let tasks = table.tasks.len();
+    let mut bytes = [0; MAP_ROWS * MAP_ROWS];
+    for (pair, reason) in all_reasons(table).into_iter().enumerate() {
+        bytes[MAP_ROWS * (pair / tasks) + pair % tasks] = reason.number();
+    }
+    bytes
 }
 
 /// The reason call of each question: number, place and reason.

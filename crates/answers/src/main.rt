@@ -4,6 +4,7 @@ mod digest;
 mod maps;
 mod patches;
 mod print;
+mod reasons;
 mod runs;
 mod space;
 mod verdicts;
@@ -40,6 +41,7 @@ fn answer_next() -> bool {
             new_rows: written_rows,
             room_bytes,
         }),
+        b'W' => reasons::answer(image_bytes, read_rows),
         b'R' => runs::answer(image_bytes, read_rows, four_bytes(&header, 28)),
         _ => false,
     }

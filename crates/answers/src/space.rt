@@ -27,6 +27,13 @@ pub fn ids() -> [u16; 96]
     [0; 96]
 }
 
+// Room for the reasons of all pairs of places.
+pub fn reasons() -> [u8; 4096]
+    ensures { λ r. ⌜ 4096 ≡ length r ⌝ }
+{
+    [0; 4096]
+}
+
 // Room for the image that a patch call writes, every byte 255.
 pub fn room() -> [u8; 12_800]
     ensures { λ r. ⌜ 12800 ≡ length r ⌝ }

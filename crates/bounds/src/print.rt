@@ -1,14 +1,7 @@
 // The lines that the program prints.
-use libc::STDOUT_FILENO;
+use console::print::number;
+use console::print::text;
 use rules::Bounds;
-
-fn text(bytes: &[u8]) {
-    io::write_all(STDOUT_FILENO, bytes);
-}
-
-fn number(value: u32) {
-    io::print_decimal(STDOUT_FILENO, value as u64);
-}
 
 // A line with a name and a number.
 fn line(name: &[u8], value: u32) {
@@ -41,13 +34,4 @@ pub fn found(bounds: Bounds, ids: &[u16]) {
     line(b"path ", bounds.path);
     line(b"transactions ", bounds.transactions);
     line(b"levels ", bounds.levels);
-}
-
-// The refusal alone.
-pub fn refusal(number_refused: u32, place: u32) {
-    text(b"refused ");
-    number(number_refused);
-    text(b" at ");
-    number(place);
-    text(b"\n");
 }

@@ -10,7 +10,7 @@ use lib.Dec.{ltb, eqb}
 use lib.ListN.{getD, set, replicate}
 use lib.Pow.{pow-lt}
 use Rattle.rules.specs.declared.Task.{Task}
-use Rattle.rules.specs.Preempt.{mayPreempt, rowFrom, mapFrom}
+use Rattle.rules.specs.Preempt.{reason, mayPreempt, rowFrom, mapFrom}
 use Rattle.rules.proofs.Numbers.{either, sumTo-ext}
 use Rattle.rules.proofs.Bits.{bit-of-power, bit-or, bits-at, bits-small, bits-none, bits-made}
 use Rattle.rules.proofs.Maps.{rowTest, map-row, row-ext, map-ext}
@@ -89,5 +89,5 @@ timedIn t = timedAt (t .transactions) (t .priorities) (t .offsets) (t .jitters) 
 -- a decision asks neither id nor size, so these fields are enough for it
 pub decided-timed : (t : Tasks) (rows : List ℕ) (i j : ℕ)
     → mayPreempt (getD (t .periods) i 0) (bitAt (getD rows i 0) j) (timedIn t i) (timedIn t j) ≡ decidedBy t rows i j
-unfolding mayPreempt decidedBy
+unfolding mayPreempt reason decidedBy
 decided-timed t rows i j = refl

@@ -12,7 +12,7 @@ use lib.ListN.{length, getD}
 use Rattle.rules.specs.Numbers.{Bytes, some}
 use Rattle.rules.specs.Blocks.{records}
 use Rattle.rules.specs.Records.{numberOf, secondOf, sortOf, tasks, pairs, taskCount, taskAt, periodIn}
-use Rattle.rules.specs.Preempt.{distance, timing, mayPreempt, bars, barred, decided, cell, mapOf}
+use Rattle.rules.specs.Preempt.{distance, bars, barred, decided, cell, mapOf}
 use Rattle.rules.specs.Refusals.{accepted, tableVerdict}
 use Rattle.rules.proofs.Numbers.{either, never, lowest-none, some-true, some-false}
 use Rattle.rules.proofs.Tests.{both-first, both-second}
@@ -20,6 +20,7 @@ use Rattle.rules.proofs.Table.Ranges.{task-ranges}
 use Rattle.rules.proofs.Table.Shape.{Shape}
 use Rattle.rules.proofs.Table.Listed.{Listed, table-of}
 use Rattle.rules.proofs.Maps.{cell-of-map}
+use Rattle.rules.proofs.Reasons.{timely, may-preempt-was}
 use Rattle.preempt.specs.Paper.{Together, period, Psi, Forbids, Reaches, Preempted}
 
 -- (7): the remainder by cases
@@ -108,7 +109,7 @@ module _ (rs : List (List ℕ)) (shape : Shape rs) (named : Listed rs) (i j : �
   -- psi, where it matters
   module _ (psi : ℕ) (is : Together rs i j → Psi rs i j psi) where
     -- the test of timing is the last line of (8)
-    timing-says : timing (period rs i) (taskAt rs i) (taskAt rs j) ≡ true → (Together rs i j → ⊥) ⊎ Reaches rs i j psi
+    timing-says : timely (period rs i) (taskAt rs i) (taskAt rs j) ≡ true → (Together rs i j → ⊥) ⊎ Reaches rs i j psi
     timing-says set =
         either (eqb (taskAt rs i .transaction) (taskAt rs j .transaction))
         (λ t.
@@ -129,22 +130,22 @@ module _ (rs : List (List ℕ)) (shape : Shape rs) (named : Listed rs) (i j : �
     reaches same (inr v) = second-holds (ltb (distance (period rs i) (taskAt rs i .offset) (taskAt rs j .offset)) (taskAt rs j .jitter)) _ (lt-ltb _ (taskAt rs i .response - taskAt rs i .offset) (rw (psi-distance psi same (is same)) at v))
 
     -- and in either case
-    timing-holds : (Together rs i j → ⊥) ⊎ Reaches rs i j psi → timing (period rs i) (taskAt rs i) (taskAt rs j) ≡ true
-    timing-holds timely =
+    timing-holds : (Together rs i j → ⊥) ⊎ Reaches rs i j psi → timely (period rs i) (taskAt rs i) (taskAt rs j) ≡ true
+    timing-holds rule =
         either (eqb (taskAt rs i .transaction) (taskAt rs j .transaction))
         (λ t.
         let same = eqb-true (taskAt rs i .transaction) (taskAt rs j .transaction) t in
-        ⊎-elim (λ w. absurd (w same)) (λ w. rw t (reaches same w)) timely)
+        ⊎-elim (λ w. absurd (w same)) (λ w. rw t (reaches same w)) rule)
         (λ t. rw t)
 
     -- the cell is set exactly where (8) says so
     pub map-is-equation-8 : (cell (mapOf rs) i j ≡ true) ↔ Preempted rs i j psi
-    unfolding decided mayPreempt
+    unfolding decided
     map-is-equation-8 =
-        let here = cell-of-map (taskCount rs) (decided rs) i j (shape .few-tasks) h l in
-        let bar = barred rs (taskAt rs i .id) (taskAt rs j .id) in (
+        let bar = barred rs (taskAt rs i .id) (taskAt rs j .id) in
+        let here = cell-of-map (taskCount rs) (decided rs) i j (shape .few-tasks) h l ∙ may-preempt-was (period rs i) bar (taskAt rs i) (taskAt rs j) in (
           λ set.
-              let decision : (ltb (taskAt rs i .priority) (taskAt rs j .priority) && (not bar && timing (period rs i) (taskAt rs i) (taskAt rs j))) ≡ true = sym here ∙ set in
+              let decision : (ltb (taskAt rs i .priority) (taskAt rs j .priority) && (not bar && timely (period rs i) (taskAt rs i) (taskAt rs j))) ≡ true = sym here ∙ set in
               let rest = both-second (ltb (taskAt rs i .priority) (taskAt rs j .priority)) _ decision in
               record {
                 urgent = ltb-true (taskAt rs i .priority) (taskAt rs j .priority) (both-first _ _ decision);

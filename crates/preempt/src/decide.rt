@@ -1,7 +1,9 @@
 // Equations (7) and (8) of the paper, for two tasks.
 ghost use mathlib.Core.Path.{_≡_};
 ghost use Prim.Native.Nat.{_-_};
-ghost use Rattle.rules.specs.Preempt.{distance as Preempt·distance, timing as Preempt·timing, mayPreempt};
+ghost use Rattle.rules.specs.Preempt.{distance as Preempt·distance, timing, reason, mayPreempt};
+ghost use Rattle.rules.specs.Reasons.{told};
+use rules::Reason;
 use rules::Task;
 
 // The difference of two numbers, or 0 where the second is larger.
@@ -44,29 +46,54 @@ fn shifted_remainder(period: u32, lower: u32, upper: u32) -> u32
     (shifted % period as u64) as u32
 }
 
-// Whether the activations of two tasks allow a preemption: different transactions, a jitter or a response that reaches far enough.
-fn is_timely(period: u32, low: Task, high: Task) -> bool
-    ensures { λ r. ⌜ r ≡ Preempt·timing period low high ⌝ }
+// The rule by which the activations of two tasks allow a preemption, the first that holds: different transactions, a jitter
+// or a response that reaches far enough. Where none does, the timing forbids it.
+fn timing_of(period: u32, low: Task, high: Task) -> Reason
+    ensures { λ r. ⌜ r ≡ timing period low high ⌝ }
 {
     if low.transaction != high.transaction {
-        return true;
+        return Reason::Transaction;
     }
     let apart = distance(period, low.offset, high.offset);
     if apart < high.jitter {
-        return true;
+        return Reason::Jitter;
     }
-    excess(period, apart) < excess(low.response, low.offset)
+    if excess(period, apart) < excess(low.response, low.offset) {
+        return Reason::Response;
+    }
+    Reason::Timing
 }
 
-// Whether the first task may be preempted by the second, by equation (8).
+// Why the first task may be preempted by the second, or why not, by equation (8).
+pub fn reason_of(period: u32, barred: bool, low: Task, high: Task) -> Reason
+    ensures { λ r. ⌜ r ≡ reason period barred low high ⌝ }
+{
+    if high.priority <= low.priority {
+        return Reason::Priority;
+    }
+    if barred {
+        return Reason::Pair;
+    }
+    timing_of(period, low, high)
+}
+
+// Whether a reason sets a cell of the map.
+fn sets_cell(reason: Reason) -> bool
+    ensures { λ r. ⌜ r ≡ told reason .set ⌝ }
+{
+    match reason {
+        Reason::Transaction => true,
+        Reason::Jitter => true,
+        Reason::Response => true,
+        Reason::Priority => false,
+        Reason::Pair => false,
+        Reason::Timing => false,
+    }
+}
+
+// Whether the first task may be preempted by the second: the reason is one that sets a cell.
 pub fn may_preempt(period: u32, barred: bool, low: Task, high: Task) -> bool
     ensures { λ r. ⌜ r ≡ mayPreempt period barred low high ⌝ }
 {
-    if high.priority <= low.priority {
-        return false;
-    }
-    if barred {
-        return false;
-    }
-    is_timely(period, low, high)
+    sets_cell(reason_of(period, barred, low, high))
 }

@@ -2,10 +2,12 @@
 use Prim.Native.Nat.{ℕ, _/_, _%_}
 use mathlib.Core.List.{List, [], _∷_, _++_}
 use mathlib.Core.Bool.{true, false}
+use mathlib.Core.Path.{_≡_, refl}
 use lib.ListN.{set, replicate}
+use Rattle.rules.specs.declared.Reason.the-variants.{Transaction, Jitter, Response, Priority, Pair, Timing}
 use Rattle.rules.specs.Numbers.{sumTo, largestTo, upTo, lowest, blank}
 use Rattle.rules.specs.Records.{ofKind, formWrong, rangeWrong, tooMany, referenceWrong}
-use Rattle.rules.specs.Preempt.{mayPreempt, barred, decided, mapFrom}
+use Rattle.rules.specs.Preempt.{reason, mayPreempt, barred, reasonAt, decided, mapFrom}
 use Rattle.rules.specs.Chains.{related}
 use Rattle.rules.specs.Patches.{same, has, takenOut, putIn, without, put, touched, carried}
 use Rattle.rules.specs.Refusals.{recordsVerdict}
@@ -87,5 +89,17 @@ cases =
 
 -- each of them holds of the definitions
 pub starred : AllHold cases
-unfolding sumTo largestTo upTo lowest blank ofKind formWrong rangeWrong tooMany referenceWrong mayPreempt barred decided mapFrom related same has takenOut putIn without put touched carried recordsVerdict figures pathSum sumFrom notAfter wins winner winnerTo heaviest
+unfolding sumTo largestTo upTo lowest blank ofKind formWrong rangeWrong tooMany referenceWrong reason mayPreempt barred decided mapFrom related same has takenOut putIn without put touched carried recordsVerdict figures pathSum sumFrom notAfter wins winner winnerTo heaviest
 starred = all-hold cases tt
+
+-- the reasons that cases 1, 2, 4, 7, 8 and 10 give, and those of the chain of figure 2, whose tasks are at places 0, 1 and 5
+pub reasons-of-cases : (reasonAt (together 617 2588 2588 0) 0 1 ≡ Timing)
+    × (reasonAt (together 617 2589 2588 0) 0 1 ≡ Response)
+    × (reasonAt (together 617 617 0 618) 0 1 ≡ Jitter)
+    × (reasonAt (asunder 1 []) 0 1 ≡ Priority)
+    × (reasonAt (asunder 2 []) 0 1 ≡ Transaction)
+    × (reasonAt (asunder 2 (precedence 2 1 ∷ [])) 0 1 ≡ Pair)
+    × (reasonAt figure2 0 1 ≡ Response)
+    × (reasonAt figure2 1 5 ≡ Transaction)
+unfolding lowest ofKind reason barred reasonAt
+reasons-of-cases = (refl, refl, refl, refl, refl, refl, refl, refl)

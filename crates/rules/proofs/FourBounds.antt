@@ -26,6 +26,7 @@ pub mod Order
 pub mod Accepted
 pub mod Total
 pub mod Unique
+pub mod Shown
 
 -- chain <= path <= levels, and chain <= transactions
 abbrev pub Ordered : Bounds → Type 0

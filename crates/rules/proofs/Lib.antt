@@ -3,6 +3,7 @@ pub mod Tests
 pub mod Bytes
 pub mod Bits
 pub mod Maps
+pub mod Reasons
 pub mod Blocks
 pub mod Refusals
 pub mod Image

@@ -8,7 +8,7 @@ use Rattle.rules.specs.declared.Form.{Form}
 use Rattle.rules.specs.declared.Form.the-variants.{Table, Patch}
 use Rattle.rules.specs.declared.Bounds.{Bounds}
 use Rattle.rules.specs.Refusals.{accepted, refusal, tableVerdict, patchVerdict}
-use Rattle.rules.specs.Calls.{mapVerdict, mapAfter, boundRefusal, BoundCall, patchCallVerdict, patchAnswer, roomAfter, patchedAfter, offending}
+use Rattle.rules.specs.Calls.{mapVerdict, mapAfter, boundRefusal, BoundCall, reasonRefusal, reasonAnswer, patchCallVerdict, patchAnswer, roomAfter, patchedAfter, offending}
 
 -- bytes i and i + 1 changed over with each other
 abbrev pub changedOver : List ℕ → ℕ → List ℕ
@@ -30,6 +30,7 @@ pub record TableCaught (image : List ℕ) (b : ℕ) : Type 0 where
   pub bound-call :
       (rows ids : List ℕ) (answer : Bounds) (later : List ℕ) → BoundCall image rows ids answer later
       → (answer ≡ boundRefusal (refusal 2 b)) × (later ≡ ids)
+  pub reason-call : (low high : ℕ) → reasonAnswer image low high ≡ reasonRefusal (refusal 2 b)
   pub base : (patch rows room newRows : List ℕ) → PatchCallRefused 2 b image patch rows room newRows
 
 -- a patch is refused with 22 at block b: by its verdict, and by every patch call on an accepted base, whatever else is lent

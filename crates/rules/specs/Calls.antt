@@ -1,7 +1,7 @@
 -- What each call returns, and what each lent buffer holds afterwards, for every input.
 use Prim.Native.Nat.{ℕ, _*_}
 use mathlib.Core.List.{List, [], _++_}
-use mathlib.Core.Bool.{true, false, cond, _||_}
+use mathlib.Core.Bool.{true, false, cond, _||_, not}
 use mathlib.Core.Path.{_≡_}
 use lib.ListN.{length, drop}
 use lib.Dec.{ltb, eqb}
@@ -9,12 +9,14 @@ use Rattle.rules.specs.declared.Form.the-variants.{Table}
 use Rattle.rules.specs.declared.Verdict.{Verdict}
 use Rattle.rules.specs.declared.Bounds.{Bounds}
 use Rattle.rules.specs.declared.Patched.{Patched}
+use Rattle.rules.specs.declared.Reasoned.{Reasoned}
 use Rattle.rules.specs.Blocks.{records, recordAt, blocksFor, imageOf}
-use Rattle.rules.specs.Records.{taskCount}
-use Rattle.rules.specs.Preempt.{mapOf}
+use Rattle.rules.specs.Records.{tasks, taskCount, placeOf, listed}
+use Rattle.rules.specs.Reasons.{told}
+use Rattle.rules.specs.Preempt.{reasonAt, mapOf}
 use Rattle.rules.specs.Chains.{Figures, FiguresOf, chainBound, chainIds}
 use Rattle.rules.specs.Patches.{outcome, touchedCount, patchedMap}
-use Rattle.rules.specs.Refusals.{accepted, orElse, tableVerdict, patchVerdict, absentRefusal, outcomeRefusal, shortRefusal}
+use Rattle.rules.specs.Refusals.{accepted, orElse, tableVerdict, patchVerdict, absentRefusal, outcomeRefusal, shortRefusal, unlistedRefusal}
 
 -- a buffer with these values written over its start; what lies beyond them keeps its values
 abbrev pub over : List ℕ → List ℕ → List ℕ
@@ -74,6 +76,23 @@ pub record BoundCall (image rows ids : List ℕ) (answer : Bounds) (later : List
       accepted (boundVerdict image rows ids) ≡ false → (answer ≡ boundRefusal (boundVerdict image rows ids)) × (later ≡ ids)
   pub worked :
       accepted (boundVerdict image rows ids) ≡ true → BoundsWorkedOut (records image) rows ids answer later
+
+-- reason calls answer 1-8, then 15 where one of the two ids is not listed
+unfoldable pub reasonVerdict : List ℕ → ℕ → ℕ → Verdict
+reasonVerdict image low high =
+    orElse (tableVerdict image)
+    (unlistedRefusal (not (listed (tasks (records image)) low) || not (listed (tasks (records image)) high)))
+
+abbrev pub reasonRefusal : Verdict → Reasoned
+reasonRefusal v = record { number = v .number; place = v .place; reason = 0 }
+
+-- why the task with the id low may be preempted by the one with the id high, or why not
+abbrev pub reasonAnswer : List ℕ → ℕ → ℕ → Reasoned
+reasonAnswer image low high =
+    let rs = records image in
+    cond (accepted (reasonVerdict image low high))
+    (record { number = 0; place = 0; reason = told (reasonAt rs (placeOf (tasks rs) low) (placeOf (tasks rs) high)) .number })
+    (reasonRefusal (reasonVerdict image low high))
 
 -- a patch call answers 1-8 for the base, then 21-27, 9, 10, 11
 abbrev pub outcomeLength : List ℕ → List ℕ → ℕ

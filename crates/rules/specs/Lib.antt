@@ -1,6 +1,7 @@
 pub mod Numbers
 pub mod Blocks
 pub mod Records
+pub mod Reasons
 pub mod Preempt
 pub mod Chains
 pub mod Patches

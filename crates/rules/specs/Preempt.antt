@@ -4,24 +4,44 @@ use mathlib.Core.List.{List, []}
 use mathlib.Core.Bool.{Bool, cond, _&&_, _||_, not}
 use lib.ListN.{length, getD}
 use lib.Dec.{ltb, eqb}
+use Rattle.rules.specs.declared.Reason.{Reason}
+use Rattle.rules.specs.declared.Reason.the-variants.{Transaction, Jitter, Response, Priority, Pair, Timing}
 use Rattle.rules.specs.declared.Task.{Task}
 use Rattle.rules.specs.Numbers.{upTo, sumTo, some}
+use Rattle.rules.specs.Reasons.{told}
 use Rattle.rules.specs.Records.{numberOf, secondOf, sortOf, pairs, taskCount, taskAt, periodIn}
 
 -- (7): from j to i, (O_i - O_j) modulo T, in 0 to T - 1
 abbrev pub distance : ℕ → ℕ → ℕ → ℕ
 distance t oi oj = (oi + (t - oj)) % t
 
--- they are in different transactions, or J_j > distance, or R_i - O_i > T - distance
-abbrev pub timing : ℕ → Task → Task → Bool
-timing t i j =
-    not (eqb (i .transaction) (j .transaction))
-    || (ltb (distance t (i .offset) (j .offset)) (j .jitter)
-    || ltb (t - distance t (i .offset) (j .offset)) (i .response - i .offset))
+-- J_j > distance
+abbrev pub jitterReaches : ℕ → Task → Task → Bool
+jitterReaches t i j = ltb (distance t (i .offset) (j .offset)) (j .jitter)
 
--- (8): task i may be preempted by task j, where t is the period of i's transaction and barred says that a pair forbids it
+-- R_i - O_i > T - distance
+abbrev pub responseReaches : ℕ → Task → Task → Bool
+responseReaches t i j = ltb (t - distance t (i .offset) (j .offset)) (i .response - i .offset)
+
+-- the first that holds: they are in different transactions, the jitter reaches, the response reaches
+abbrev pub timing : ℕ → Task → Task → Reason
+timing t i j =
+    cond (not (eqb (i .transaction) (j .transaction))) Transaction
+    (cond (jitterReaches t i j) Jitter
+    (cond (responseReaches t i j) Response
+    Timing))
+
+-- (8): the first condition that fails, of priority, pair and timing, or else why task i may be preempted by task j; t is
+-- the period of i's transaction and barred says that a pair forbids it
+unfoldable pub reason : ℕ → Bool → Task → Task → Reason
+reason t barred i j =
+    cond (not (ltb (i .priority) (j .priority))) Priority
+    (cond barred Pair
+    (timing t i j))
+
+-- task i may be preempted by task j: the reason is one of the first three
 unfoldable pub mayPreempt : ℕ → Bool → Task → Task → Bool
-mayPreempt t barred i j = ltb (i .priority) (j .priority) && (not barred && timing t i j)
+mayPreempt t barred i j = told (reason t barred i j) .set
 
 -- the pair names first a, then b
 abbrev pub names : List ℕ → ℕ → ℕ → Bool
@@ -34,6 +54,11 @@ bars r a b = names r a b || (eqb (sortOf r) 1 && names r b a)
 -- some pair forbids that the task with id a is preempted by the one with id b
 unfoldable pub barred : List (List ℕ) → ℕ → ℕ → Bool
 barred rs a b = some (λ k. bars (getD (pairs rs) k []) a b) (length (pairs rs))
+
+-- why the task at place i may be preempted by the one at place j, or why not
+unfoldable pub reasonAt : List (List ℕ) → ℕ → ℕ → Reason
+reasonAt rs i j =
+    reason (periodIn rs (taskAt rs i .transaction)) (barred rs (taskAt rs i .id) (taskAt rs j .id)) (taskAt rs i) (taskAt rs j)
 
 -- the task at place i may be preempted by the one at place j
 unfoldable pub decided : List (List ℕ) → ℕ → ℕ → Bool

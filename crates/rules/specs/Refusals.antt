@@ -116,3 +116,7 @@ outcomeRefusal base patch = refuseIf 10 0 (broken (outcome base patch))
 -- 11: a lent map or room is too short, place 0
 abbrev pub shortRefusal : Bool → Verdict
 shortRefusal short = refuseIf 11 0 short
+
+-- 15: a named task is not listed, place 0
+abbrev pub unlistedRefusal : Bool → Verdict
+unlistedRefusal unlisted = refuseIf 15 0 unlisted

@@ -41,6 +41,16 @@ pub struct Task {
     pub size: u32,
 }
 
+// Why a task may be preempted by another, the first three, or why it may not, the others.
+pub enum Reason {
+    Transaction,
+    Jitter,
+    Response,
+    Priority,
+    Pair,
+    Timing,
+}
+
 // What a bound call returns. A refused call has number and place, and all else 0.
 #[repr(C)]
 pub struct Bounds {
@@ -61,4 +71,12 @@ pub struct Patched {
     pub place: u32,
     pub touched: u32,
     pub length: u32,
+}
+
+// What a reason call returns. A refused call has number and place, and reason 0.
+#[repr(C)]
+pub struct Reasoned {
+    pub number: u32,
+    pub place: u32,
+    pub reason: u32,
 }

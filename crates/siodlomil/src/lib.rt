@@ -1,12 +1,14 @@
 // The C interface: the calls of the library under names that C can link. Each lent slice is a pointer and its length.
 ghost use mathlib.Core.Path.{_≡_};
-ghost use Rattle.rules.specs.Calls.{mapVerdict, mapAfter, BoundCall, patchCallVerdict, patchAnswer, roomAfter, patchedAfter};
+ghost use Rattle.rules.specs.Calls.{mapVerdict, mapAfter, BoundCall, reasonAnswer, patchCallVerdict, patchAnswer, roomAfter, patchedAfter};
 ghost use Rattle.siodlomil.specs.Standing.{OffendsAt};
 use patch::absent::verdict_of_both;
 use patch::call::apply_patch;
 use preempt::map::fill_map;
+use reason::call::find_reason;
 use rules::Bounds;
 use rules::Patched;
+use rules::Reasoned;
 use rules::Verdict;
 use stack::call::find_bounds;
 
@@ -33,6 +35,15 @@ pub extern "C" fn siodlomil_bounds(image: &[u8], map: &[u64], ids: &mut [u16]) -
     ensures { λ r. ⌜ BoundCall (now (image .entry)) (now (map .entry)) (now (ids .entry)) r (now (ids .exit)) ⌝ }
 {
     find_bounds(image, map, ids)
+}
+
+// Why the task with one id may be preempted by the task with another, or why not, as a number from 1 to 6. A refusal answers
+// its number and place.
+#[no_mangle]
+pub extern "C" fn siodlomil_reason(image: &[u8], low: u32, high: u32) -> Reasoned
+    ensures { λ r. ⌜ r ≡ reasonAnswer (now (image .entry)) low high ⌝ }
+{
+    find_reason(image, low, high)
 }
 
 // Applies a patch to a base: the outcome's image and its map go to the lent rooms, and the number of touched tasks and the

@@ -1,31 +1,21 @@
--- The tests of equation (8), one after the other.
-use native.Mathlib.Omega.{arith}
-use borrow.Author.Tests.{lt-ltb, le-ltb}
+-- The reason, and what it says of the cell.
+use mathlib.Core.Path.{ap, _∙_}
 use borrow.Author.Needs.{needs}
+use Rattle.rules.specs.declared.Reason.{Reason}
+use Rattle.rules.specs.Reasons.{told}
 use Rattle.rules.specs.Preempt.{mayPreempt}
 use Rattle.preempt.proofs.decide.may_preempt.Statement.{statement}
 use Rattle.preempt.proofs.decide.may_preempt.Tie as tie
 
+reason-of-requires : tie.Need-reason-of-requires
+reason-of-requires c κs = search needs
+
+sets-cell-requires : tie.Need-sets-cell-requires
+sets-cell-requires c κs = search needs
+
 returns : tie.Need-returns
 unfolding mayPreempt
-returns c =
-    let a = c .before .before .before .args in
-    rw (le-ltb (a .low .priority) (a .high .priority) (omega arith))
-
-returns-2 : tie.Need-returns-2
-unfolding mayPreempt
-returns-2 c =
-    let a = c .before .before .before .before .args in
-    rw (lt-ltb (a .low .priority) (a .high .priority) (omega arith), c .if2 .taken)
-
-is-timely-requires : tie.Need-is-timely-requires
-is-timely-requires c κs = search needs
-
-returns-3 : tie.Need-returns-3
-unfolding mayPreempt
-returns-3 c =
-    let a = c .before .before .before .before .before .args in
-    rw (lt-ltb (a .low .priority) (a .high .priority) (omega arith), c .before .if2 .left, c .is-timely .ensures)
+returns c = c .sets-cell .ensures ∙ ap (λ (r : Reason). told r .set) (c .before .reason-of .ensures)
 
 pub may-preempt-spec : {M : Type 1} → statement M
-may-preempt-spec = tie.close (tie.spec returns returns-2 is-timely-requires returns-3)
+may-preempt-spec = tie.close (tie.spec reason-of-requires sets-cell-requires returns)

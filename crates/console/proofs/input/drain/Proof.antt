@@ -3,8 +3,8 @@ use Prim.Native.Nat.{_≤_}
 use mathlib.Core.Path.{_≡_}
 use lib.ListN.{length}
 use borrow.Author.Needs.{needs}
-use Rattle.bounds.proofs.input.drain.Statement.{statement}
-use Rattle.bounds.proofs.input.drain.Tie as tie
+use Rattle.console.proofs.input.drain.Statement.{statement}
+use Rattle.console.proofs.input.drain.Tie as tie
 
 abbrev Inv-loop : tie.InvT-loop
 Inv-loop space₀ left₀ space left = (length space ≡ 65536) × (left ≤ 4000000000)

@@ -1,0 +1,40 @@
+// The tasks of an accepted table by their places.
+ghost use mathlib.Core.Path.{_≡_};
+ghost use mathlib.Core.Bool.{true};
+ghost use Prim.Native.Nat.{_<_};
+ghost use Rattle.rules.specs.Blocks.{records};
+ghost use Rattle.rules.specs.Records.{tasks, taskCount, placeOf};
+ghost use Rattle.rules.specs.Preempt.{reasonAt};
+ghost use Rattle.rules.specs.Refusals.{accepted, tableVerdict};
+use crate::pairs::is_barred;
+use preempt::decide::reason_of;
+use preempt::tasks::period_in;
+use preempt::tasks::task_at;
+use rules::Reason;
+use table::count::count_kind;
+use table::place::place_from;
+
+// The place of the task with this id, or the number of tasks where it is not listed.
+pub fn task_place(image: &[u8], id: u32) -> usize
+    requires { ⌜ accepted (tableVerdict (now image)) ≡ true ⌝ }
+    ensures { λ r. ⌜ r ≡ placeOf (tasks (records (now (image .entry)))) id ⌝ }
+{
+    let first = count_kind(image, 1);
+    let count = count_kind(image, 2);
+    place_from(image, first, count, id)
+}
+
+// Why the task at place i may be preempted by the one at place j, or why not.
+pub fn reason_at(image: &[u8], i: usize, j: usize) -> Reason
+    requires { ⌜ accepted (tableVerdict (now image)) ≡ true ⌝ }
+    requires { ⌜ (i < taskCount (records (now image))) × (j < taskCount (records (now image))) ⌝ }
+    ensures { λ r. ⌜ r ≡ reasonAt (records (now (image .entry))) i j ⌝ }
+{
+    let first = count_kind(image, 1);
+    let count = count_kind(image, 2);
+    let low = task_at(image, first, i);
+    let high = task_at(image, first, j);
+    let period = period_in(image, first, low.transaction);
+    let barred = is_barred(image, first + count, low.id, high.id);
+    reason_of(period, barred, low, high)
+}
