@@ -7,6 +7,7 @@
 #include "plain/image.c"
 #include "plain/table.c"
 #include "plain/map.c"
+#include "plain/reason.c"
 #include "plain/ceiling.c"
 #include "plain/search.c"
 #include "plain/stack.c"

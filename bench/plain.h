@@ -15,6 +15,11 @@ struct plain_bounds {
     uint32_t number, place, tasks, chain, path, transactions, levels, length;
 };
 
+/* What a reason call answers: the reason, 1 to 6, or 0 where the call is refused. */
+struct plain_reasoned {
+    uint32_t number, place, reason;
+};
+
 /* What a patch call answers. */
 struct plain_patched {
     uint32_t number, place, touched, length;
@@ -27,6 +32,8 @@ struct plain_verdict plain_map(const uint8_t *image, size_t bytes, uint64_t *row
 
 struct plain_bounds plain_bounds(const uint8_t *image, size_t bytes, const uint64_t *map, size_t row_count,
                                  uint16_t *ids, size_t id_count);
+
+struct plain_reasoned plain_reason(const uint8_t *image, size_t bytes, uint32_t low, uint32_t high);
 
 struct plain_patched plain_patch(const uint8_t *base, size_t base_bytes, const uint8_t *patch, size_t patch_bytes,
                                  const uint64_t *map, size_t row_count, uint8_t *room, size_t room_bytes,

@@ -3,8 +3,8 @@
 
 #include <string.h>
 
-call *const calls[CALLS] = {call_verdict, call_map, call_bounds, call_patch_verdict, call_patch};
-const char *const call_names[CALLS] = {"verdict", "map", "bounds", "patch verdict", "patch"};
+call *const calls[CALLS] = {call_verdict, call_map, call_bounds, call_reason, call_patch_verdict, call_patch};
+const char *const call_names[CALLS] = {"verdict", "map", "bounds", "reason", "patch verdict", "patch"};
 
 /* The input's table. */
 static struct image table_of(const struct input *input)
@@ -41,6 +41,12 @@ void call_bare_bounds(const struct side *side, const struct input *input, struct
 {
     static const uint64_t none[64];
     side->bounds(table_of(input), none, answer);
+}
+
+/* Why the task with the lowest id of a table may be preempted by the one with the highest, or why not. */
+void call_reason(const struct side *side, const struct input *input, struct answer *answer)
+{
+    side->reason(table_of(input), input->lowest_id, input->highest_id, answer);
 }
 
 /* The verdict on a patch that takes a record out: a patch call on the empty table, which ends in 9 after the verdict. */

@@ -37,6 +37,7 @@ static void count_calls(struct input *input)
     count(MAP, input);
     if (sets_visited(input, MOST_SETS) <= MOST_SETS)
         count(BOUNDS, input);
+    count(REASON, input);
 }
 
 /* Makes the calls on every input of a file. */

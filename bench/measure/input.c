@@ -31,6 +31,20 @@ static void read_map(FILE *file, uint64_t map[64])
     }
 }
 
+/* Finds the ids of the first and the last task of the input's table, which rise; 0 where it has no task. */
+static void find_ids(struct input *input)
+{
+    input->lowest_id = input->highest_id = 0;
+    for (size_t k = 0; k < 15 * (input->bytes / 512); k++) {
+        const uint8_t *fields = input->image + 512 * (k / 15) + 8 + 32 * (k % 15);
+        if (fields[0] != 2)
+            continue;
+        input->highest_id = fields[2] + 256u * fields[3];
+        if (input->lowest_id == 0)
+            input->lowest_id = input->highest_id;
+    }
+}
+
 /* Reads the next input, or says that there is none. A file that breaks off ends the program. */
 bool read_input(FILE *file, struct input *input)
 {
@@ -45,6 +59,7 @@ bool read_input(FILE *file, struct input *input)
     end_unless(strlen(line + name) < MOST_CLASS_BYTES);
     strcpy(input->class, line + name);
     read_bytes(file, input->image, input->bytes);
+    find_ids(input);
     input->patch_bytes = input->kind == 'P' ? second : 0;
     read_bytes(file, input->patch, input->patch_bytes);
     input->is_map_lent = input->kind == 'T' && second > 0;

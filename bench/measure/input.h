@@ -1,4 +1,4 @@
-/* One input: an image with the map that is lent for its bounds, and for a patch call the patch. */
+/* One input: an image with the map that is lent for its bounds and the ids asked about, and for a patch call the patch. */
 #ifndef INPUT_H
 #define INPUT_H
 
@@ -13,6 +13,7 @@ struct input {
     char kind, class[MOST_CLASS_BYTES];
     size_t bytes, patch_bytes;
     uint8_t image[MOST_IMAGE_BYTES], patch[MOST_IMAGE_BYTES];
+    uint32_t lowest_id, highest_id;
     bool is_map_lent;
     uint64_t map[64];
 };

@@ -91,6 +91,8 @@ static void measure(struct input *input)
         keep(class, VERDICT, input, &answer);
         keep(class, MAP, input, &answer);
         keep_bounds(class, input, &answer);
+        keep(class, REASON, input, &answer);
+        end_unless(answer.numbers[0] == 0, "a reason is refused", input);
         return;
     }
     if (takes_out(input))

@@ -23,6 +23,7 @@ struct side {
     const char *name;
     void (*map)(struct image image, size_t row_count, struct answer *answer);
     void (*bounds)(struct image image, const uint64_t *map, struct answer *answer);
+    void (*reason)(struct image image, uint32_t low, uint32_t high, struct answer *answer);
     void (*patch)(struct image base, struct image patch, const uint64_t *map, struct answer *answer);
     uint64_t *sets_visited, *sets_allowed;
 };

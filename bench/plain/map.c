@@ -1,5 +1,8 @@
 /* Who may preempt whom: the tasks read once, the forbidden pairs, the decision for two tasks, and the map call. */
 
+/* Why a task may be preempted by another, the first three, or why not: as the reason call answers them. */
+enum reason { TRANSACTION = 1, JITTER, RESPONSE, PRIORITY, PAIR, TIMING };
+
 /* Each field of the tasks by their places, and the period of each task's transaction. */
 struct tasks {
     size_t count;
@@ -9,12 +12,21 @@ struct tasks {
 /* The period of the transaction with this number, or 0 where it is not listed. */
 static uint32_t period_in(const uint8_t *image, size_t count, uint32_t number)
 {
-    for (size_t k = 0; k < count; k++) {
-        const uint8_t *fields = record_at(image, k);
-        if (two_bytes(fields + 2) == number)
-            return four_bytes(fields + 8);
-    }
-    return 0;
+    size_t place = place_from(image, 0, count, number);
+    return place == count ? 0 : four_bytes(record_at(image, place) + 8);
+}
+
+/* Reads what a task record says to place i; a jitter that is missing is 0. */
+static void read_task(const uint8_t *fields, struct tasks *tasks, size_t i)
+{
+    uint32_t jitter = four_bytes(fields + 12);
+    tasks->ids[i] = two_bytes(fields + 2);
+    tasks->transactions[i] = two_bytes(fields + 4);
+    tasks->priorities[i] = two_bytes(fields + 6);
+    tasks->offsets[i] = four_bytes(fields + 8);
+    tasks->jitters[i] = jitter == 4294967295 ? 0 : jitter;
+    tasks->responses[i] = four_bytes(fields + 16);
+    tasks->sizes[i] = two_bytes(fields + 20);
 }
 
 /* Reads the tasks of an accepted table. */
@@ -22,15 +34,7 @@ static void read_tasks(const uint8_t *image, const struct sizes *sizes, struct t
 {
     tasks->count = sizes->tasks;
     for (size_t i = 0; i < sizes->tasks; i++) {
-        const uint8_t *fields = record_at(image, sizes->transactions + i);
-        uint32_t jitter = four_bytes(fields + 12);
-        tasks->ids[i] = two_bytes(fields + 2);
-        tasks->transactions[i] = two_bytes(fields + 4);
-        tasks->priorities[i] = two_bytes(fields + 6);
-        tasks->offsets[i] = four_bytes(fields + 8);
-        tasks->jitters[i] = jitter == 4294967295 ? 0 : jitter;
-        tasks->responses[i] = four_bytes(fields + 16);
-        tasks->sizes[i] = two_bytes(fields + 20);
+        read_task(record_at(image, sizes->transactions + i), tasks, i);
         tasks->periods[i] = period_in(image, sizes->transactions, tasks->transactions[i]);
     }
 }
@@ -67,18 +71,27 @@ static uint32_t distance(uint32_t period, uint32_t lower, uint32_t upper)
     return lower < upper ? period + lower - upper : lower - upper;
 }
 
-/* Whether the task at place i may be preempted by the one at place j, by equation (8). */
-static bool decide(const struct tasks *tasks, const uint64_t barred[64], size_t i, size_t j)
+/* Why the task at place i may be preempted by the one at place j, or why not, by equation (8); the bits of barred say which
+ * tasks a pair forbids. Each cell of a map asks it, so it is to be inlined. */
+static inline enum reason decide(const struct tasks *tasks, uint64_t barred, size_t i, size_t j)
 {
-    if (tasks->priorities[j] <= tasks->priorities[i] || is_set(barred[i], j))
-        return false;
+    if (tasks->priorities[j] <= tasks->priorities[i])
+        return PRIORITY;
+    if (is_set(barred, j))
+        return PAIR;
     if (tasks->transactions[i] != tasks->transactions[j])
-        return true;
+        return TRANSACTION;
     uint32_t period = tasks->periods[i];
     uint32_t apart = distance(period, tasks->offsets[i], tasks->offsets[j]);
     if (apart < tasks->jitters[j])
-        return true;
-    return excess(period, apart) < excess(tasks->responses[i], tasks->offsets[i]);
+        return JITTER;
+    return excess(period, apart) < excess(tasks->responses[i], tasks->offsets[i]) ? RESPONSE : TIMING;
+}
+
+/* Whether it may: the reason is one of the first three. */
+static bool may_preempt(const struct tasks *tasks, const uint64_t barred[64], size_t i, size_t j)
+{
+    return decide(tasks, barred[i], i, j) <= RESPONSE;
 }
 
 /* Row i of the map: a bit for each task that may preempt the one at place i. */
@@ -86,7 +99,7 @@ static uint64_t row(const struct tasks *tasks, const uint64_t barred[64], size_t
 {
     uint64_t row = 0;
     for (size_t j = 0; j < tasks->count; j++)
-        if (decide(tasks, barred, i, j))
+        if (may_preempt(tasks, barred, i, j))
             row += (uint64_t)1 << j;
     return row;
 }

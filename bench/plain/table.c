@@ -149,6 +149,15 @@ static size_t place_of(const uint32_t *numbers, size_t count, uint32_t number)
     return low < count && numbers[low] == number ? low : count;
 }
 
+/* The place of a number or id among count records from the first on, or count where none has it. */
+static size_t place_from(const uint8_t *image, size_t first, size_t count, uint32_t number)
+{
+    for (size_t k = 0; k < count; k++)
+        if (two_bytes(record_at(image, first + k) + 2) == number)
+            return k;
+    return count;
+}
+
 /* Lists the numbers or ids of count records from the first on. */
 static void list_numbers(const uint8_t *image, size_t first, size_t count, uint32_t *numbers)
 {
