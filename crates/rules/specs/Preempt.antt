@@ -23,7 +23,7 @@ jitterReaches t i j = ltb (distance t (i .offset) (j .offset)) (j .jitter)
 abbrev pub responseReaches : ℕ → Task → Task → Bool
 responseReaches t i j = ltb (t - distance t (i .offset) (j .offset)) (i .response - i .offset)
 
--- the first that holds: they are in different transactions, the jitter reaches, the response reaches
+-- the first that holds: they are in different transactions, the jitter reaches, the response reaches; else the timing fails
 abbrev pub timing : ℕ → Task → Task → Reason
 timing t i j =
     cond (not (eqb (i .transaction) (j .transaction))) Transaction

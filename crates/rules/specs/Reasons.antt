@@ -5,7 +5,7 @@ use mathlib.Core.Bool.{Bool, true, false}
 use Rattle.rules.specs.declared.Reason.{Reason}
 use Rattle.rules.specs.declared.Reason.the-variants.{Transaction, Jitter, Response, Priority, Pair, Timing}
 
--- the number, the printed word in ASCII, and whether a cell is set
+-- the number, the printed word in ASCII, which is the name of the case in small letters, and whether a cell is set
 pub record Told : Type 0 where
   pub number : ℕ
   pub word : List ℕ

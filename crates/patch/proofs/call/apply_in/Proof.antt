@@ -8,7 +8,6 @@ use borrow.Author.Tests.{ltb-false}
 use lib.Dec.{ltb}
 use lib.ListN.{length, take}
 use lib.Seq.{length-take-le}
-use Rattle.rules.specs.declared.Verdict.{Verdict}
 use Rattle.rules.specs.Blocks.{records}
 use Rattle.rules.specs.Patches.{touchedCount}
 use Rattle.rules.specs.Refusals.{accepted, refusal, tableVerdict}
@@ -21,14 +20,6 @@ use Rattle.patch.proofs.Calling.{bothVerdict, isShort, both-table, both
 use borrow.Author.Needs.{needs}
 use Rattle.patch.proofs.call.apply_in.Statement.{statement}
 use Rattle.patch.proofs.call.apply_in.Tie as tie
-
--- the checks that need no outcome are passed
-passed : (base patch : List ℕ) (v : Verdict) → v ≡ bothVerdict base patch → v .number ≡ 0 → accepted (bothVerdict base patch) ≡ true
-passed base patch v e h = zero-accepted _ _ e h
-
--- and so is the verdict on the outcome's image
-judged : (image : List ℕ) (v : Verdict) → v ≡ tableVerdict image → v .number ≡ 0 → accepted (tableVerdict image) ≡ true
-judged image v e h = zero-accepted _ _ e h
 
 verdict-of-both-requires : tie.Need-verdict-of-both-requires
 verdict-of-both-requires c κs = search needs
@@ -47,7 +38,7 @@ returns c =
 write-outcome-requires : tie.Need-write-outcome-requires
 write-outcome-requires c κs =
     let a = c .before .before .before .before .before .before .before .before .before .before .args in
-    let both = passed (a .base .now) (a .patch .now) (c .before .before .before .verdict-of-both .result) (c .before .before .before .verdict-of-both .ensures) (c .before .if1 .left) in
+    let both = zero-accepted (c .before .before .before .verdict-of-both .result) (bothVerdict (a .base .now) (a .patch .now)) (c .before .before .before .verdict-of-both .ensures) (c .before .if1 .left) in
     ((both-table (a .base .now) (a .patch .now) both, both-patch (a .base .now) (a .patch .now) both), (both-present (a .base .now) (a .patch .now) both, c .before .before .before .before .before .before .before .before .before .before .pre))
 
 slice-reshare-prefix-image : tie.Need-slice-reshare-prefix-image
@@ -68,7 +59,7 @@ same-length c = search needs
 returns-2 : tie.Need-returns-2
 returns-2 c =
     let a = c .before .before .before .before .before .before .before .before .before .before .before .before .before .before .before .before .before .before .args in
-    let both = passed (a .base .now) (a .patch .now) (c .before .before .before .before .before .before .before .before .before .before .before .verdict-of-both .result) (c .before .before .before .before .before .before .before .before .before .before .before .verdict-of-both .ensures) (c .before .before .before .before .before .before .before .before .before .if1 .left) in
+    let both = zero-accepted (c .before .before .before .before .before .before .before .before .before .before .before .verdict-of-both .result) (bothVerdict (a .base .now) (a .patch .now)) (c .before .before .before .before .before .before .before .before .before .before .before .verdict-of-both .ensures) (c .before .before .before .before .before .before .before .before .before .if1 .left) in
     let made = c .before .before .before .before .before .before .before .write-outcome .ensures in
     let n = c .before .before .before .before .before .before .before .write-outcome .result in
     let later = c .before .before .before .before .before .before .before .write-outcome .last .1 .1 .0 in
@@ -89,11 +80,11 @@ same-length-2 c = search needs
 returns-3 : tie.Need-returns-3
 returns-3 c =
     let a = c .before .before .before .before .before .before .before .before .before .before .before .before .before .before .before .before .before .before .before .before .args in
-    let both = passed (a .base .now) (a .patch .now) (c .before .before .before .before .before .before .before .before .before .before .before .before .before .verdict-of-both .result) (c .before .before .before .before .before .before .before .before .before .before .before .before .before .verdict-of-both .ensures) (c .before .before .before .before .before .before .before .before .before .before .before .if1 .left) in
+    let both = zero-accepted (c .before .before .before .before .before .before .before .before .before .before .before .before .before .verdict-of-both .result) (bothVerdict (a .base .now) (a .patch .now)) (c .before .before .before .before .before .before .before .before .before .before .before .before .before .verdict-of-both .ensures) (c .before .before .before .before .before .before .before .before .before .before .before .if1 .left) in
     let made = c .before .before .before .before .before .before .before .before .before .write-outcome .ensures in
     let n = c .before .before .before .before .before .before .before .before .before .write-outcome .result in
     let later = c .before .before .before .before .before .before .before .before .before .write-outcome .last .1 .1 .0 in
-    let right = judged (take n later) (c .before .before .before .before .before .table-verdict .result) (c .before .before .before .before .before .table-verdict .ensures) (c .before .before .before .if2 .left) in
+    let right = zero-accepted (c .before .before .before .before .before .table-verdict .result) (tableVerdict (take n later)) (c .before .before .before .before .before .table-verdict .ensures) (c .before .before .before .if2 .left) in
     let whole = accepted-whole (a .base .now) (a .patch .now) both n (a .space .now) later made right in
     let short : isShort (a .base .now) (a .patch .now) (a .map .now) (a .room .now) (a .carried .now) ≡ true = rw (← accepted-length (a .base .now) (a .patch .now) both n (a .space .now) later made right) (sym (c .before .before .is-short .ensures) ∙ c .before .if3 .taken) in
     rw (c .refused3 .ensures)
@@ -102,11 +93,11 @@ returns-3 c =
 write-rooms-requires : tie.Need-write-rooms-requires
 write-rooms-requires c κs =
     let a = c .before .before .before .before .before .before .before .before .before .before .before .before .before .before .before .before .before .before .before .before .before .args in
-    let both = passed (a .base .now) (a .patch .now) (c .before .before .before .before .before .before .before .before .before .before .before .before .before .before .verdict-of-both .result) (c .before .before .before .before .before .before .before .before .before .before .before .before .before .before .verdict-of-both .ensures) (c .before .before .before .before .before .before .before .before .before .before .before .before .if1 .left) in
+    let both = zero-accepted (c .before .before .before .before .before .before .before .before .before .before .before .before .before .before .verdict-of-both .result) (bothVerdict (a .base .now) (a .patch .now)) (c .before .before .before .before .before .before .before .before .before .before .before .before .before .before .verdict-of-both .ensures) (c .before .before .before .before .before .before .before .before .before .before .before .before .if1 .left) in
     let made = c .before .before .before .before .before .before .before .before .before .before .write-outcome .ensures in
     let n = c .before .before .before .before .before .before .before .before .before .before .write-outcome .result in
     let later = c .before .before .before .before .before .before .before .before .before .before .write-outcome .last .1 .1 .0 in
-    let right = judged (take n later) (c .before .before .before .before .before .before .table-verdict .result) (c .before .before .before .before .before .before .table-verdict .ensures) (c .before .before .before .before .if2 .left) in
+    let right = zero-accepted (c .before .before .before .before .before .before .table-verdict .result) (tableVerdict (take n later)) (c .before .before .before .before .before .before .table-verdict .ensures) (c .before .before .before .before .if2 .left) in
     let enough : (ltb (length (a .map .now)) 64 || (ltb (length (a .carried .now)) 64 || ltb (length (a .room .now)) n)) ≡ false = sym (c .before .before .before .is-short .ensures) ∙ c .before .before .if3 .left in
     let rooms = neither-second (ltb (length (a .map .now)) 64) _ enough in
     let carried = ltb-false (length (a .carried .now)) 64 (neither-first (ltb (length (a .carried .now)) 64) _ rooms) in
@@ -125,11 +116,11 @@ same-length-5 c = search needs
 returns-4 : tie.Need-returns-4
 returns-4 c =
     let a = c .before .before .before .before .before .before .before .before .before .before .before .before .before .before .before .before .before .before .before .before .before .before .before .before .before .before .args in
-    let both = passed (a .base .now) (a .patch .now) (c .before .before .before .before .before .before .before .before .before .before .before .before .before .before .before .before .before .before .before .verdict-of-both .result) (c .before .before .before .before .before .before .before .before .before .before .before .before .before .before .before .before .before .before .before .verdict-of-both .ensures) (c .before .before .before .before .before .before .before .before .before .before .before .before .before .before .before .before .before .if1 .left) in
+    let both = zero-accepted (c .before .before .before .before .before .before .before .before .before .before .before .before .before .before .before .before .before .before .before .verdict-of-both .result) (bothVerdict (a .base .now) (a .patch .now)) (c .before .before .before .before .before .before .before .before .before .before .before .before .before .before .before .before .before .before .before .verdict-of-both .ensures) (c .before .before .before .before .before .before .before .before .before .before .before .before .before .before .before .before .before .if1 .left) in
     let made = c .before .before .before .before .before .before .before .before .before .before .before .before .before .before .before .write-outcome .ensures in
     let n = c .before .before .before .before .before .before .before .before .before .before .before .before .before .before .before .write-outcome .result in
     let later = c .before .before .before .before .before .before .before .before .before .before .before .before .before .before .before .write-outcome .last .1 .1 .0 in
-    let right = judged (take n later) (c .before .before .before .before .before .before .before .before .before .before .before .table-verdict .result) (c .before .before .before .before .before .before .before .before .before .before .before .table-verdict .ensures) (c .before .before .before .before .before .before .before .before .before .if2 .left) in
+    let right = zero-accepted (c .before .before .before .before .before .before .before .before .before .before .before .table-verdict .result) (tableVerdict (take n later)) (c .before .before .before .before .before .before .before .before .before .before .before .table-verdict .ensures) (c .before .before .before .before .before .before .before .before .before .if2 .left) in
     let whole = accepted-whole (a .base .now) (a .patch .now) both n (a .space .now) later made right in
     let image = accepted-image (a .base .now) (a .patch .now) both n (a .space .now) later made right in
     let long = accepted-length (a .base .now) (a .patch .now) both n (a .space .now) later made right in
