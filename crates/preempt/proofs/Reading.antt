@@ -4,7 +4,7 @@ use mathlib.Core.List.{List, []}
 use mathlib.Core.Path.{_≡_, ap, sym, _∙_}
 use native.Mathlib.Omega.{arith}
 use lib.ListN.{length, getD}
-use Rattle.rules.specs.Records.{numberOf, tasks, taskCount, taskAt, periodIn}
+use Rattle.rules.specs.Records.{numberOf, tasks, taskCount, taskAt, periodAt}
 use Rattle.rules.specs.Preempt.{barred, decided, cell, mapFrom, mapOf}
 use Rattle.rules.proofs.Table.Shape.{Shape}
 use Rattle.rules.proofs.Maps.{cell-of-map, map-ext}
@@ -30,7 +30,7 @@ tasksOf rs =
       jitters = column (taskCount rs) (λ i. taskAt rs i .jitter);
       responses = column (taskCount rs) (λ i. taskAt rs i .response);
       sizes = column (taskCount rs) (λ i. taskAt rs i .size);
-      periods = column (taskCount rs) (λ i. periodIn rs (taskAt rs i .transaction));
+      periods = column (taskCount rs) (periodAt rs);
     }
 
 -- are all that can be read of it
@@ -85,7 +85,7 @@ module _ (rs : List (List ℕ)) (t : Tasks) (rows : List ℕ) (shape : Shape rs)
   unfolding decidedBy decided
   decided-read i j h l =
       rw (
-        field-at rs (t .periods) (λ i. periodIn rs (taskAt rs i .transaction)) shape (read .periods) i h,
+        field-at rs (t .periods) (periodAt rs) shape (read .periods) i h,
         barred-read i j h l,
         task-read i h,
         task-read j l,

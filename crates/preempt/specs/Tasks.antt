@@ -5,7 +5,7 @@ use mathlib.Core.Bool.{Bool}
 use mathlib.Core.Path.{_≡_}
 use lib.ListN.{getD}
 use Rattle.rules.specs.declared.Task.{Task}
-use Rattle.rules.specs.Records.{taskCount, taskAt, periodIn}
+use Rattle.rules.specs.Records.{taskCount, taskAt, periodAt}
 use Rattle.rules.specs.Preempt.{mayPreempt, barred, cell, mapFrom}
 use Rattle.preempt.specs.Bits.{column}
 use Rattle.preempt.specs.declared.tasks.Tasks.{Tasks}
@@ -20,7 +20,7 @@ pub record TasksRead (rs : List (List ℕ)) (t : Tasks) : Type 0 where
   pub jitters : t .jitters ≡ column (taskCount rs) (λ i. taskAt rs i .jitter)
   pub responses : t .responses ≡ column (taskCount rs) (λ i. taskAt rs i .response)
   pub sizes : t .sizes ≡ column (taskCount rs) (λ i. taskAt rs i .size)
-  pub periods : t .periods ≡ column (taskCount rs) (λ i. periodIn rs (taskAt rs i .transaction))
+  pub periods : t .periods ≡ column (taskCount rs) (periodAt rs)
 
 -- cell j of row i is set where a pair forbids that the task at place i is preempted by the one at place j
 unfoldable pub barredMap : List (List ℕ) → List ℕ

@@ -1,11 +1,13 @@
 // The tasks of a table, read once into arrays by their places.
 ghost use mathlib.Core.Path.{_≡_};
 ghost use mathlib.Core.Bool.{true};
+ghost use mathlib.Core.List.{[]};
 ghost use Prim.Native.Nat.{_<_};
-ghost use lib.ListN.{length};
+ghost use lib.ListN.{length, getD};
 ghost use Rattle.rules.specs.Blocks.{records};
-ghost use Rattle.rules.specs.Records.{jitterOf, taskOf, transactions, taskCount, taskAt, periodIn};
+ghost use Rattle.rules.specs.Records.{jitterOf, taskOf, transactions, tasks, taskCount, taskAt, periodIn, periodAt};
 ghost use Rattle.rules.specs.Refusals.{accepted, tableVerdict};
+ghost use Rattle.preempt.specs.Bits.{column};
 ghost use Rattle.preempt.specs.Tasks.{TasksRead};
 use image::bytes::four_bytes;
 use image::bytes::two_bytes;
@@ -49,17 +51,26 @@ pub fn task_of(fields: &[u8]) -> Task
     }
 }
 
-// The task at a place of an accepted table, which has as many transactions as are said to come first.
+// The record of the task at a place of an accepted table, which has as many transactions as are said to come first.
+fn task_record(image: &[u8], first: usize, place: usize) -> &[u8]
+    requires { ⌜ accepted (tableVerdict (now image)) ≡ true ⌝ }
+    requires { ⌜ (first ≡ length (transactions (records (now image)))) × (place < taskCount (records (now image))) ⌝ }
+    ensures { λ r. ⌜ now r ≡ getD (tasks (records (now (image .entry)))) place [] ⌝ }
+{
+    record_at(image, first + place)
+}
+
+// The task at a place.
 pub fn task_at(image: &[u8], first: usize, place: usize) -> Task
     requires { ⌜ accepted (tableVerdict (now image)) ≡ true ⌝ }
     requires { ⌜ (first ≡ length (transactions (records (now image)))) × (place < taskCount (records (now image))) ⌝ }
     ensures { λ r. ⌜ r ≡ taskAt (records (now (image .entry))) place ⌝ }
 {
-    task_of(record_at(image, first + place))
+    task_of(task_record(image, first, place))
 }
 
 // The period of the transaction with this number, of the count that a table has, or 0 where it is not listed.
-pub fn period_in(image: &[u8], count: usize, number: u32) -> u32
+fn period_in(image: &[u8], count: usize, number: u32) -> u32
     requires { ⌜ accepted (tableVerdict (now image)) ≡ true ⌝ }
     requires { ⌜ count ≡ length (transactions (records (now image))) ⌝ }
     ensures { λ r. ⌜ r ≡ periodIn (records (now (image .entry))) number ⌝ }
@@ -71,6 +82,31 @@ pub fn period_in(image: &[u8], count: usize, number: u32) -> u32
     four_bytes(record_at(image, place), 8)
 }
 
+// The period of the transaction of the task at a place.
+pub fn period_at(image: &[u8], first: usize, place: usize) -> u32
+    requires { ⌜ accepted (tableVerdict (now image)) ≡ true ⌝ }
+    requires { ⌜ (first ≡ length (transactions (records (now image)))) × (place < taskCount (records (now image))) ⌝ }
+    ensures { λ r. ⌜ r ≡ periodAt (records (now (image .entry))) place ⌝ }
+{
+    let transaction = two_bytes(task_record(image, first, place), 4);
+    period_in(image, first, transaction)
+}
+
+// The periods of the tasks' transactions by the places of the tasks, 0 beyond them.
+fn read_periods(image: &[u8], first: usize, count: usize) -> [u32; 64]
+    requires { ⌜ accepted (tableVerdict (now image)) ≡ true ⌝ }
+    requires { ⌜ (first ≡ length (transactions (records (now image)))) × (count ≡ taskCount (records (now image))) ⌝ }
+    ensures { λ r. ⌜ r ≡ column count (periodAt (records (now (image .entry)))) ⌝ }
+{
+    let mut periods = [0u32; 64];
+    let mut i: usize = 0;
+    while i < count {
+        periods[i] = period_at(image, first, i);
+        i += 1;
+    }
+    periods
+}
+
 // The tasks of an accepted table.
 pub fn read_tasks(image: &[u8]) -> Tasks
     requires { ⌜ accepted (tableVerdict (now image)) ≡ true ⌝ }
@@ -78,6 +114,7 @@ pub fn read_tasks(image: &[u8]) -> Tasks
 {
     let first = count_kind(image, 1);
     let count = count_kind(image, 2);
+    let periods = read_periods(image, first, count);
     let mut ids = [0u32; 64];
     let mut transactions = [0u32; 64];
     let mut priorities = [0u32; 64];
@@ -85,7 +122,6 @@ pub fn read_tasks(image: &[u8]) -> Tasks
     let mut jitters = [0u32; 64];
     let mut responses = [0u32; 64];
     let mut sizes = [0u32; 64];
-    let mut periods = [0u32; 64];
     let mut i: usize = 0;
     while i < count {
         let task = task_at(image, first, i);
@@ -96,7 +132,6 @@ pub fn read_tasks(image: &[u8]) -> Tasks
         jitters[i] = task.jitter;
         responses[i] = task.response;
         sizes[i] = task.size;
-        periods[i] = period_in(image, first, task.transaction);
         i += 1;
     }
     Tasks {

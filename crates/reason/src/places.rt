@@ -8,7 +8,7 @@ ghost use Rattle.rules.specs.Preempt.{reasonAt};
 ghost use Rattle.rules.specs.Refusals.{accepted, tableVerdict};
 use crate::pairs::is_barred;
 use preempt::decide::reason_of;
-use preempt::tasks::period_in;
+use preempt::tasks::period_at;
 use preempt::tasks::task_at;
 use rules::Reason;
 use table::count::count_kind;
@@ -34,7 +34,7 @@ pub fn reason_at(image: &[u8], i: usize, j: usize) -> Reason
     let count = count_kind(image, 2);
     let low = task_at(image, first, i);
     let high = task_at(image, first, j);
-    let period = period_in(image, first, low.transaction);
+    let period = period_at(image, first, i);
     let barred = is_barred(image, first + count, low.id, high.id);
     reason_of(period, barred, low, high)
 }

@@ -9,7 +9,7 @@ use Rattle.rules.specs.declared.Reason.the-variants.{Transaction, Jitter
 use Rattle.rules.specs.declared.Task.{Task}
 use Rattle.rules.specs.Numbers.{upTo, sumTo, some}
 use Rattle.rules.specs.Reasons.{told}
-use Rattle.rules.specs.Records.{numberOf, secondOf, sortOf, pairs, taskCount, taskAt, periodIn}
+use Rattle.rules.specs.Records.{numberOf, secondOf, sortOf, pairs, taskCount, taskAt, periodAt}
 
 -- (7): from j to i, (O_i - O_j) modulo T, in 0 to T - 1
 abbrev pub distance : ℕ → ℕ → ℕ → ℕ
@@ -58,12 +58,12 @@ barred rs a b = some (λ k. bars (getD (pairs rs) k []) a b) (length (pairs rs))
 -- why the task at place i may be preempted by the one at place j, or why not
 unfoldable pub reasonAt : List (List ℕ) → ℕ → ℕ → Reason
 reasonAt rs i j =
-    reason (periodIn rs (taskAt rs i .transaction)) (barred rs (taskAt rs i .id) (taskAt rs j .id)) (taskAt rs i) (taskAt rs j)
+    reason (periodAt rs i) (barred rs (taskAt rs i .id) (taskAt rs j .id)) (taskAt rs i) (taskAt rs j)
 
 -- the task at place i may be preempted by the one at place j
 unfoldable pub decided : List (List ℕ) → ℕ → ℕ → Bool
 decided rs i j =
-    mayPreempt (periodIn rs (taskAt rs i .transaction)) (barred rs (taskAt rs i .id) (taskAt rs j .id)) (taskAt rs i) (taskAt rs j)
+    mayPreempt (periodAt rs i) (barred rs (taskAt rs i .id) (taskAt rs j .id)) (taskAt rs i) (taskAt rs j)
 
 -- cell j of row i, bit j counted from the lowest
 abbrev pub cell : List ℕ → ℕ → ℕ → Bool

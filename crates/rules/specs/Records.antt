@@ -133,6 +133,10 @@ listed rs x = ltb (placeOf rs x) (length rs)
 abbrev pub periodIn : List (List ℕ) → ℕ → ℕ
 periodIn rs x = periodOf (getD (transactions rs) (placeOf (transactions rs) x) [])
 
+-- the period of the transaction of the task at place i
+abbrev pub periodAt : List (List ℕ) → ℕ → ℕ
+periodAt rs i = periodIn rs (secondOf (getD (tasks rs) i []))
+
 -- at most 16 transactions, 64 tasks, 256 pairs
 abbrev pub mostOf : ℕ → ℕ
 mostOf k = cond (eqb k 1) 16 (cond (eqb k 2) 64 256)

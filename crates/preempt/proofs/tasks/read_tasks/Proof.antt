@@ -6,7 +6,7 @@ use native.Mathlib.Omega.{arith}
 use borrow.Author.Needs.{needs}
 use Rattle.table.proofs.Counts.{count-asked}
 use Rattle.rules.specs.declared.Task.{Task}
-use Rattle.rules.specs.Records.{taskCount, taskAt, periodIn}
+use Rattle.rules.specs.Records.{taskCount, taskAt, periodAt}
 use Rattle.rules.specs.Blocks.{records}
 use Rattle.preempt.specs.Bits.{column}
 use Rattle.preempt.proofs.Accepted.{shape}
@@ -14,7 +14,7 @@ use Rattle.preempt.proofs.Columns.{column-none, column-filled}
 use Rattle.preempt.proofs.tasks.read_tasks.Statement.{statement}
 use Rattle.preempt.proofs.tasks.read_tasks.Tie as tie
 
--- the fields of the task at a place, and the period of its transaction
+-- the fields of the task at a place
 abbrev id-of : List ℕ → ℕ → ℕ
 id-of image k = taskAt (records image) k .id
 
@@ -36,11 +36,8 @@ response-of image k = taskAt (records image) k .response
 abbrev size-of : List ℕ → ℕ → ℕ
 size-of image k = taskAt (records image) k .size
 
-abbrev period-of : List ℕ → ℕ → ℕ
-period-of image k = periodIn (records image) (taskAt (records image) k .transaction)
-
 abbrev Inv-loop : tie.InvT-loop
-Inv-loop image first count ids₀ transactions₀ priorities₀ offsets₀ jitters₀ responses₀ sizes₀ periods₀ i₀ ids transactions priorities offsets jitters responses sizes periods i =
+Inv-loop image first count periods ids₀ transactions₀ priorities₀ offsets₀ jitters₀ responses₀ sizes₀ i₀ ids transactions priorities offsets jitters responses sizes i =
     (i ≤ count) × (first ≤ 16) × (count ≤ 64)
     × (ids ≡ column i (id-of image))
     × (transactions ≡ column i (transaction-of image))
@@ -49,10 +46,9 @@ Inv-loop image first count ids₀ transactions₀ priorities₀ offsets₀ jitte
     × (jitters ≡ column i (jitter-of image))
     × (responses ≡ column i (response-of image))
     × (sizes ≡ column i (size-of image))
-    × (periods ≡ column i (period-of image))
 
 abbrev μ-loop : tie.MeasureT-loop
-μ-loop image first count ids₀ transactions₀ priorities₀ offsets₀ jitters₀ responses₀ sizes₀ periods₀ i₀ ids transactions priorities offsets jitters responses sizes periods i = count - i
+μ-loop image first count periods ids₀ transactions₀ priorities₀ offsets₀ jitters₀ responses₀ sizes₀ i₀ ids transactions priorities offsets jitters responses sizes i = count - i
 
 count-kind-requires : tie.Need-count-kind-requires Inv-loop μ-loop
 count-kind-requires c κs = count-asked (c .before .args .image .now) (c .before .pre) _ (omega arith)
@@ -60,15 +56,20 @@ count-kind-requires c κs = count-asked (c .before .args .image .now) (c .before
 count-kind-requires-2 : tie.Need-count-kind-requires-2 Inv-loop μ-loop
 count-kind-requires-2 c κs = count-asked (c .before .before .args .image .now) (c .before .before .pre) _ (omega arith)
 
+read-periods-requires : tie.Need-read-periods-requires Inv-loop μ-loop
+read-periods-requires c κs = (c .before .before .before .pre, (c .before .count-kind .ensures .0, c .count-kind2 .ensures .0))
+
 loop-holds : tie.Need-loop-holds Inv-loop μ-loop
 loop-holds c =
-    let image = c .before .before .before .args .image .now in
-    let s = shape image (c .before .before .shared-slice-known .given) (c .before .before .before .pre) in
-    (omega arith, omega (arith, c .before .count-kind .ensures .0, s .few-transactions), omega (arith, c .count-kind2 .ensures .0, s .few-tasks), column-none (id-of image), column-none (transaction-of image), column-none (priority-of image), column-none (offset-of image), column-none (jitter-of image), column-none (response-of image), column-none (size-of image), column-none (period-of image))
+    let start = c .before .before .before .before in
+    let image = start .args .image .now in
+    let s = shape image (c .before .before .before .shared-slice-known .given) (start .pre) in
+    (omega arith, omega (arith, c .before .before .count-kind .ensures .0, s .few-transactions), omega (arith, c .before .count-kind2 .ensures .0, s .few-tasks), column-none (id-of image), column-none (transaction-of image), column-none (priority-of image), column-none (offset-of image), column-none (jitter-of image), column-none (response-of image), column-none (size-of image))
 
 task-at-requires : tie.Need-task-at-requires Inv-loop μ-loop
 task-at-requires c κs =
-    (c .before .before .before .before .before .pre, (c .before .before .before .count-kind .ensures .0, omega (arith, c .before .before .count-kind2 .ensures .0)))
+    let found = c .before .before .before in
+    (found .before .before .before .pre, (found .before .count-kind .ensures .0, omega (arith, found .count-kind2 .ensures .0)))
 
 mul-ids : tie.Need-mul-ids Inv-loop μ-loop
 mul-ids c = search needs
@@ -112,15 +113,6 @@ mul-sizes c = search needs
 array-write-sizes : tie.Need-array-write-sizes Inv-loop μ-loop
 array-write-sizes c = search needs
 
-period-in-requires : tie.Need-period-in-requires Inv-loop μ-loop
-period-in-requires c κs = (c .before .before .before .before .before .before .pre, c .before .before .before .before .count-kind .ensures .0)
-
-mul-periods : tie.Need-mul-periods Inv-loop μ-loop
-mul-periods c = search needs
-
-array-write-periods : tie.Need-array-write-periods Inv-loop μ-loop
-array-write-periods c = search needs
-
 add-i : tie.Need-add-i Inv-loop μ-loop
 add-i c = search needs
 
@@ -130,8 +122,8 @@ loop-less c = search needs
 loop-again : tie.Need-loop-again Inv-loop μ-loop
 loop-again c =
     let image = c .before .before .before .before .before .before .before .args .image .now in
-    let s = c .before .before .before .loop in
-    let here = c .before .task-at .ensures in (
+    let s = c .before .before .loop in
+    let here = c .task-at .ensures in (
       omega arith,
       omega arith,
       omega arith,
@@ -142,16 +134,17 @@ loop-again c =
       column-filled (s .i) (jitter-of image) (s .jitters) _ (omega arith) (s .inv .7) (ap (λ (t : Task). t .jitter) here),
       column-filled (s .i) (response-of image) (s .responses) _ (omega arith) (s .inv .8) (ap (λ (t : Task). t .response) here),
       column-filled (s .i) (size-of image) (s .sizes) _ (omega arith) (s .inv .9) (ap (λ (t : Task). t .size) here),
-      column-filled (s .i) (period-of image) (s .periods) _ (omega arith) (s .inv .10) (c .period-in .ensures ∙ ap (λ (t : Task). periodIn (records image) (t .transaction)) here),
     )
 
 returns : tie.Need-returns Inv-loop μ-loop
 returns c =
-    let image = c .before .before .before .before .before .args .image .now in
+    let found = c .before .before .before in
+    let image = found .before .before .before .args .image .now in
     let s = c .before .loop in
-    let all : s .i ≡ taskCount (records image) = omega (arith, c .before .before .count-kind2 .ensures .0) in
+    let counted = found .count-kind2 .ensures .0 in
+    let all : s .i ≡ taskCount (records image) = omega (arith, counted) in
     record {
-      count = c .before .before .count-kind2 .ensures .0;
+      count = counted;
       ids = s .inv .3 ∙ ap (λ (m : ℕ). column m (id-of image)) all;
       transactions = s .inv .4 ∙ ap (λ (m : ℕ). column m (transaction-of image)) all;
       priorities = s .inv .5 ∙ ap (λ (m : ℕ). column m (priority-of image)) all;
@@ -159,7 +152,7 @@ returns c =
       jitters = s .inv .7 ∙ ap (λ (m : ℕ). column m (jitter-of image)) all;
       responses = s .inv .8 ∙ ap (λ (m : ℕ). column m (response-of image)) all;
       sizes = s .inv .9 ∙ ap (λ (m : ℕ). column m (size-of image)) all;
-      periods = s .inv .10 ∙ ap (λ (m : ℕ). column m (period-of image)) all;
+      periods = c .before .before .read-periods .ensures ∙ ap (λ (m : ℕ). column m (periodAt (records image))) counted;
     }
 
 pub read-tasks-spec : {M : Type 1} → statement M
@@ -170,6 +163,7 @@ read-tasks-spec =
     μ-loop
     count-kind-requires
     count-kind-requires-2
+    read-periods-requires
     loop-holds
     task-at-requires
     mul-ids
@@ -186,9 +180,6 @@ read-tasks-spec =
     array-write-responses
     mul-sizes
     array-write-sizes
-    period-in-requires
-    mul-periods
-    array-write-periods
     add-i
     loop-less
     loop-again

@@ -28,8 +28,10 @@ task-at-requires-2 c κs =
     let start = c .before .before .before .before in
     (start .pre .0, (c .before .before .count-kind .ensures .0, start .pre .1 .1))
 
-period-in-requires : tie.Need-period-in-requires
-period-in-requires c κs = (c .before .before .before .before .before .pre .0, c .before .before .before .count-kind .ensures .0)
+period-at-requires : tie.Need-period-at-requires
+period-at-requires c κs =
+    let start = c .before .before .before .before .before in
+    (start .pre .0, (c .before .before .before .count-kind .ensures .0, start .pre .1 .0))
 
 add-is-barred : tie.Need-add-is-barred
 add-is-barred c =
@@ -48,7 +50,7 @@ returns : tie.Need-returns
 unfolding reasonAt
 returns c =
     c .reason-of .ensures
-    ∙ rw (c .before .before .period-in .ensures, c .before .is-barred .ensures, c .before .before .before .before .task-at .ensures, c .before .before .before .task-at2 .ensures)
+    ∙ rw (c .before .before .period-at .ensures, c .before .is-barred .ensures, c .before .before .before .before .task-at .ensures, c .before .before .before .task-at2 .ensures)
 
 pub reason-at-spec : {M : Type 1} → statement M
 reason-at-spec =
@@ -58,7 +60,7 @@ reason-at-spec =
     count-kind-requires-2
     task-at-requires
     task-at-requires-2
-    period-in-requires
+    period-at-requires
     add-is-barred
     is-barred-requires
     reason-of-requires
