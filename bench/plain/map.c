@@ -16,17 +16,18 @@ static uint32_t period_in(const uint8_t *image, size_t count, uint32_t number)
     return place == count ? 0 : four_bytes(record_at(image, place) + 8);
 }
 
-/* Reads what a task record says to place i; a jitter that is missing is 0. */
-static void read_task(const uint8_t *fields, struct tasks *tasks, size_t i)
+/* Reads what a task record says to place i, with the period of its transaction; a jitter that is missing is that period. */
+static void read_task(const uint8_t *fields, uint32_t period, struct tasks *tasks, size_t i)
 {
     uint32_t jitter = four_bytes(fields + 12);
     tasks->ids[i] = two_bytes(fields + 2);
     tasks->transactions[i] = two_bytes(fields + 4);
     tasks->priorities[i] = two_bytes(fields + 6);
     tasks->offsets[i] = four_bytes(fields + 8);
-    tasks->jitters[i] = jitter == 4294967295 ? 0 : jitter;
+    tasks->jitters[i] = jitter == 4294967295 ? period : jitter;
     tasks->responses[i] = four_bytes(fields + 16);
     tasks->sizes[i] = two_bytes(fields + 20);
+    tasks->periods[i] = period;
 }
 
 /* Reads the tasks of an accepted table. */
@@ -34,8 +35,8 @@ static void read_tasks(const uint8_t *image, const struct sizes *sizes, struct t
 {
     tasks->count = sizes->tasks;
     for (size_t i = 0; i < sizes->tasks; i++) {
-        read_task(record_at(image, sizes->transactions + i), tasks, i);
-        tasks->periods[i] = period_in(image, sizes->transactions, tasks->transactions[i]);
+        const uint8_t *fields = record_at(image, sizes->transactions + i);
+        read_task(fields, period_in(image, sizes->transactions, two_bytes(fields + 4)), tasks, i);
     }
 }
 

@@ -17,13 +17,15 @@ static bool is_barred(const uint8_t *image, const struct sizes *sizes, uint32_t 
     return false;
 }
 
-/* Why the task at place i of an accepted table may be preempted by the one at place j, or why not: only the two are read. */
+/* Why the task at place i of an accepted table may be preempted by the one at place j, or why not: only the two are read,
+ * both with the first one's period, as no period is asked where they are in different transactions. */
 static enum reason reason_at(const uint8_t *image, const struct sizes *sizes, size_t i, size_t j)
 {
     struct tasks two;
-    read_task(record_at(image, sizes->transactions + i), &two, 0);
-    read_task(record_at(image, sizes->transactions + j), &two, 1);
-    two.periods[0] = period_in(image, sizes->transactions, two.transactions[0]);
+    const uint8_t *low = record_at(image, sizes->transactions + i);
+    uint32_t period = period_in(image, sizes->transactions, two_bytes(low + 4));
+    read_task(low, period, &two, 0);
+    read_task(record_at(image, sizes->transactions + j), period, &two, 1);
     uint64_t barred = (uint64_t)is_barred(image, sizes, two.ids[0], two.ids[1]) << 1;
     return decide(&two, barred, 0, 1);
 }

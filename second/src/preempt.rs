@@ -42,7 +42,7 @@ fn reason_of_times(table: &Table, lower: &Task, upper: &Task) -> Reason {
     };
     let apart = distance(upper.offset, lower.offset, period);
     let unfinished_for = u64::from(lower.response) - u64::from(lower.offset);
-    if u64::from(upper.read_jitter()) > apart {
+    if u64::from(upper.read_jitter(period)) > apart {
         Reason::Jitter
     } else if unfinished_for > u64::from(period) - apart {
         Reason::Response

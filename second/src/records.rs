@@ -177,10 +177,10 @@ impl Task {
         record
     }
 
-    /// The jitter that the decision reads: a missing one is 0.
-    pub fn read_jitter(&self) -> u32 {
+    /// The jitter that the decision reads: a missing one is the period of the task's own transaction.
+    pub fn read_jitter(&self, own_period: u32) -> u32 {
         match self.jitter {
-            MISSING_JITTER => 0,
+            MISSING_JITTER => own_period,
             measured => measured,
         }
     }

@@ -66,6 +66,27 @@ fn refusal_9_hands_back_a_part_of_the_patch() {
     assert_eq!((room, map), ([9; 512], [9; 64]));
 }
 
+/// Why a patch that takes this task's record out of a table with this other record of it is refused.
+fn refusal_of_taking_out(taken_out: Task, listed: Task) -> Option<Refusal> {
+    let base = table(&[task(1, 1, 0, 0), listed], &[]);
+    let patch = patch_image(&[taken_out.record()], &[]);
+    apply(&table_image(&base), &patch, &true_map(&base)).err()
+}
+
+#[test]
+fn refusal_9_tells_a_missing_jitter_from_its_period_written() {
+    let missing = unmeasured(2, 2, 0);
+    let written = Task {
+        jitter: PERIOD,
+        ..missing
+    };
+    assert_eq!(refusal_of_taking_out(missing, missing), None);
+    assert_eq!(refusal_of_taking_out(written, written), None);
+    let absent = Some(Refusal::new(9, 0));
+    assert_eq!(refusal_of_taking_out(written, missing), absent);
+    assert_eq!(refusal_of_taking_out(missing, written), absent);
+}
+
 #[test]
 fn refusal_10_is_for_an_outcome_that_is_no_table() {
     let base = figure2();
@@ -170,4 +191,26 @@ fn putting_back_and_pairs_taken_out_touch() {
     assert_eq!(touched(&[same], &[same]).0, 3);
     let same = base.tasks[2].record();
     assert_eq!(touched(&[same], &[same]).0, 1);
+}
+
+#[test]
+fn a_period_alone_changes_what_a_missing_jitter_is_read_as() {
+    let (lower, upper) = (task(1, 1, 0, 0), unmeasured(2, 2, 1));
+    let elsewhere = Task {
+        transaction: 2,
+        ..task(3, 3, 0, 0)
+    };
+    let mut base = table(&[lower, upper, elsewhere], &[]);
+    base.transactions[0].period = 10;
+    let mut longer = base.clone();
+    longer.transactions[0].period = PERIOD;
+    let records = [&base, &longer].map(|table| [table.transactions[0].record()]);
+    let patch = patch_image(&records[0], &records[1]);
+    for base_map in [true_map(&base), [0; 64]] {
+        let outcome = apply(&table_image(&base), &patch, &base_map).unwrap();
+        assert_eq!(outcome.patched.touched, 2);
+        assert_eq!(outcome.image, table_image(&longer));
+        assert_eq!(outcome.map, true_map(&longer));
+        assert_eq!(outcome.map[..3], [0b110, 0b100, 0]);
+    }
 }

@@ -4,7 +4,7 @@ mod common;
 
 use std::collections::BTreeMap;
 
-use common::{margins, numbers_in, Margins};
+use common::{margins, numbers_in, pairs_of_tasks, Margins};
 use second::answer::answer;
 use second::generate::Generator;
 use second::preempt::reason_for;
@@ -74,11 +74,7 @@ fn tables_of_reason_cases_come_in_all_sizes_and_stay_small() {
 /// The margins of every two tasks of a table that their times alone decide.
 fn margins_that_decide(table: &Table) -> Vec<Margins> {
     let by_times = [Reason::Jitter, Reason::Response, Reason::Timing];
-    let pairs = table
-        .tasks
-        .iter()
-        .flat_map(|lower| table.tasks.iter().map(move |upper| (lower, upper)));
-    pairs
+    pairs_of_tasks(table)
         .filter(|(lower, upper)| by_times.contains(&reason_for(table, lower, upper)))
         .map(|(lower, upper)| margins(table, lower, upper))
         .collect()

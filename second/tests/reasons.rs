@@ -7,10 +7,10 @@ use second::answer::answer;
 use second::digest;
 use second::figure2::figure2;
 use second::generate::Generator;
-use second::preempt::{all_reasons, is_set, may_be_preempted, reason_for, true_map};
+use second::preempt::{all_reasons, distance, is_set, may_be_preempted, reason_for, true_map};
 use second::reason_call::reason_call;
 use second::reasons::Reason;
-use second::records::Task;
+use second::records::{Pair, Task, MISSING_JITTER};
 use second::stream::question::Question;
 use second::stream::{Call, Case};
 use second::table::Table;
@@ -101,6 +101,86 @@ fn without_a_period_times_say_no() {
     assert!(!may_be_preempted(&asked, &lower, &upper));
 }
 
+/// Why a task at this offset that is done at once may be preempted by this task of higher priority.
+fn reason_at(offset: u32, upper: &Task) -> Reason {
+    let lower = task(1, 1, offset, offset);
+    reason_for(&table(&[lower, *upper], &[]), &lower, upper)
+}
+
+#[test]
+fn a_missing_jitter_passes_every_distance() {
+    let upper = unmeasured(2, 2, 500);
+    assert_eq!(distance(upper.offset, 500, PERIOD), 0);
+    assert_eq!(distance(upper.offset, 499, PERIOD), u64::from(PERIOD) - 1);
+    let one_short = Task {
+        jitter: PERIOD - 1,
+        ..upper
+    };
+    assert_eq!(reason_at(499, &one_short), Reason::Timing);
+    let unmoved = Task { jitter: 0, ..upper };
+    assert_eq!(reason_at(500, &unmoved), Reason::Timing);
+    for offset in [0, 1, 498, 499, 500, 501, PERIOD - 1] {
+        assert_eq!(reason_at(offset, &upper), Reason::Jitter);
+    }
+}
+
+#[test]
+fn priority_and_a_pair_are_named_before_a_missing_jitter() {
+    let (lower, upper) = (task(1, 2, 0, 0), unmeasured(2, 3, 0));
+    let with = |upper: Task, pairs: &[Pair]| {
+        let asked = table(&[lower, upper], pairs);
+        reason_for(&asked, &lower, &upper)
+    };
+    assert_eq!(with(upper, &[]), Reason::Jitter);
+    assert_eq!(with(unmeasured(2, 2, 0), &[]), Reason::Priority);
+    assert_eq!(with(unmeasured(2, 1, 0), &[]), Reason::Priority);
+    assert_eq!(with(upper, &[one_way(1, 2)]), Reason::Pair);
+    assert_eq!(with(upper, &[precedence(2, 1)]), Reason::Pair);
+    assert_eq!(with(upper, &[one_way(2, 1)]), Reason::Jitter);
+}
+
+#[test]
+fn a_missing_jitter_is_not_asked_across_transactions() {
+    let upper = Task {
+        transaction: 2,
+        ..unmeasured(2, 2, 500)
+    };
+    for offset in [0, 499, 500] {
+        assert_eq!(reason_at(offset, &upper), Reason::Transaction);
+    }
+}
+
+#[test]
+fn a_missing_jitter_is_the_period_of_its_own_transaction() {
+    let (lower, upper) = (task(1, 1, 0, 0), unmeasured(2, 2, 1));
+    let in_second = |task: Task| Task {
+        id: task.id + 2,
+        transaction: 2,
+        ..task
+    };
+    let mut asked = table(&[lower, upper, in_second(lower), in_second(upper)], &[]);
+    for (first, second) in [(10, PERIOD), (PERIOD, 10)] {
+        asked.transactions[0].period = first;
+        asked.transactions[1].period = second;
+        let reason =
+            |row: usize, cell: usize| reason_for(&asked, &asked.tasks[row], &asked.tasks[cell]);
+        assert_eq!([reason(0, 1), reason(2, 3)], [Reason::Jitter; 2]);
+    }
+    assert_eq!(upper.read_jitter(10), 10);
+    assert_eq!(always_late(2, 2).read_jitter(10), PERIOD);
+}
+
+#[test]
+fn a_missing_jitter_of_the_preempted_task_changes_nothing() {
+    let changes_nothing = |asked: &Table, (lower, upper): (&Task, &Task)| {
+        let with = |jitter| reason_for(asked, &Task { jitter, ..*lower }, upper);
+        with(MISSING_JITTER) == with(0) && with(0) == reason_for(asked, lower, upper)
+    };
+    for asked in drawn_tables(Call::Reasons) {
+        assert!(pairs_of_tasks(&asked).all(|pair| changes_nothing(&asked, pair)));
+    }
+}
+
 /// The reason as a list of rules says it, of which the first that holds is named.
 fn restated(table: &Table, lower: &Task, upper: &Task) -> Reason {
     let margins = margins(table, lower, upper);
@@ -136,13 +216,18 @@ fn assert_reasons_of(table: &Table) {
     assert_eq!(reasons.next(), None);
 }
 
+/// The accepted tables of 1,000 cases of this call.
+fn drawn_tables(call: Call) -> Vec<Table> {
+    let mut generator = Generator::from_seed(51);
+    let images = (0..1000).map(|_| generator.next_case(call).image);
+    let accepted = images.filter_map(|image| records_of_table(&image).ok());
+    accepted.map(|records| Table::read(&records)).collect()
+}
+
 #[test]
 fn reasons_of_drawn_tables_are_as_restated_and_give_the_map() {
     for call in [Call::TableVerdict, Call::Map, Call::Reasons] {
-        let mut generator = Generator::from_seed(51);
-        let images = (0..1000).map(|_| generator.next_case(call).image);
-        let accepted = images.filter_map(|image| records_of_table(&image).ok());
-        let tables: Vec<Table> = accepted.map(|records| Table::read(&records)).collect();
+        let tables = drawn_tables(call);
         assert!(tables.len() > 400);
         tables.iter().for_each(assert_reasons_of);
     }

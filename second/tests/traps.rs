@@ -6,7 +6,7 @@ use common::*;
 use second::blocks::{patch_image, records_in};
 use second::figure2::figure2;
 use second::preempt::{distance, is_set, may_be_preempted, true_map};
-use second::records::{Task, Transaction, MISSING_JITTER};
+use second::records::{Task, Transaction};
 use second::table::Table;
 
 #[test]
@@ -88,16 +88,14 @@ fn a_changed_period_touches_the_tasks_of_its_transaction() {
 }
 
 #[test]
-fn a_missing_jitter_is_read_as_zero_and_kept_as_written() {
-    let lower = task(1, 1, 617, 617);
-    let upper = Task {
-        jitter: MISSING_JITTER,
-        ..task(2, 2, 0, 100)
-    };
-    let base = table(&[lower, upper], &[]);
-    assert_eq!(true_map(&base), [0; 64]);
-    let outcome = apply(&table_image(&base), &patch_image(&[], &[]), &[0; 64]).unwrap();
-    assert_eq!(outcome.image, table_image(&base));
+fn a_missing_jitter_is_no_zero_and_kept_as_written() {
+    let base = table(&[task(1, 1, 617, 617), unmeasured(2, 2, 0)], &[]);
+    assert_eq!(true_map(&base)[..2], [0b10, 0]);
+    let image = table_image(&base);
+    let jitter_at = 8 + 3 * 32 + 12;
+    assert_eq!(image[jitter_at..][..4], [255; 4]);
+    let outcome = apply(&image, &patch_image(&[], &[]), &[0; 64]).unwrap();
+    assert_eq!(outcome.image, image);
 }
 
 #[test]

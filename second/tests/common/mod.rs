@@ -28,6 +28,14 @@ pub fn task(id: u16, priority: u16, offset: u32, response: u32) -> Task {
     }
 }
 
+/// A task of transaction 1 that is done at once, with size 1 and a jitter that is not measured.
+pub fn unmeasured(id: u16, priority: u16, offset: u32) -> Task {
+    Task {
+        jitter: MISSING_JITTER,
+        ..task(id, priority, offset, offset)
+    }
+}
+
 /// A table of these tasks and pairs with transactions 1 and 2.
 pub fn table(tasks: &[Task], pairs: &[Pair]) -> Table {
     let transaction = |number| Transaction {
@@ -97,6 +105,12 @@ pub fn own_bounds(table: &Table) -> (Bounds, Vec<u16>) {
     bounds_with(table, &true_map(table))
 }
 
+/// Every two tasks of a table, in both orders and each with itself.
+pub fn pairs_of_tasks(table: &Table) -> impl Iterator<Item = (&Task, &Task)> {
+    let with_all = |lower| table.tasks.iter().map(move |upper| (lower, upper));
+    table.tasks.iter().flat_map(with_all)
+}
+
 /// By how much a rule on times holds for two tasks of one transaction; above 0 it does.
 pub struct Margins {
     /// By how much the upper task's jitter passes the distance.
@@ -107,13 +121,11 @@ pub struct Margins {
 
 /// The margins of two tasks, worked out from the wait.
 pub fn margins(table: &Table, lower: &Task, upper: &Task) -> Margins {
-    let is_own = |transaction: &&Transaction| transaction.number == lower.transaction;
-    let own = table.transactions.iter().find(is_own);
-    let period = i64::from(own.expect("a listed transaction").period);
+    let period = own_period(table, lower);
     let ahead = i64::from(upper.offset) - i64::from(lower.offset);
     let wait = if ahead > 0 { ahead } else { ahead + period };
     let jitter = match upper.jitter {
-        MISSING_JITTER => 0,
+        MISSING_JITTER => own_period(table, upper),
         measured => i64::from(measured),
     };
     let unfinished_for = i64::from(lower.response) - i64::from(lower.offset);
@@ -121,6 +133,13 @@ pub fn margins(table: &Table, lower: &Task, upper: &Task) -> Margins {
         jitter: jitter - (period - wait),
         response: unfinished_for - wait,
     }
+}
+
+/// The period of the transaction that a task is in.
+fn own_period(table: &Table, task: &Task) -> i64 {
+    let is_own = |transaction: &&Transaction| transaction.number == task.transaction;
+    let own = table.transactions.iter().find(is_own);
+    i64::from(own.expect("a listed transaction").period)
 }
 
 /// The numbers of an answer, or of the part of one before or behind a bar.
