@@ -6,7 +6,7 @@ use crate::afresh::touched_ids;
 use crate::blocks::{records_in, Form, BLOCK_BYTES};
 use crate::patch_call::patch_call;
 use crate::preempt::{is_set, true_map, MAP_ROWS};
-use crate::records::{Pair, Record, TRANSACTION};
+use crate::records::{Pair, Record, Task, MISSING_JITTER, TRANSACTION};
 use crate::stream::{Call, Case};
 use crate::table::Table;
 
@@ -16,6 +16,8 @@ enum Sort {
     UnchangedPutBack,
     PeriodChanged,
     CellChangedByPeriod,
+    OnlyPeriodChanged,
+    JitterRewritten,
     PairTakenOut,
     PairPutIn,
     TaskMoved,
@@ -28,10 +30,12 @@ enum Sort {
 }
 
 /// Every sort that a comparison is to meet.
-const SORTS: [Sort; 16] = [
+const SORTS: [Sort; 18] = [
     Sort::UnchangedPutBack,
     Sort::PeriodChanged,
     Sort::CellChangedByPeriod,
+    Sort::OnlyPeriodChanged,
+    Sort::JitterRewritten,
     Sort::PairTakenOut,
     Sort::PairPutIn,
     Sort::TaskMoved,
@@ -54,6 +58,10 @@ impl Sort {
             Sort::UnchangedPutBack => "an unchanged record put back".into(),
             Sort::PeriodChanged => "a period changed under a task".into(),
             Sort::CellChangedByPeriod => "a cell changed by a period alone".into(),
+            Sort::OnlyPeriodChanged => "nothing but a period changed under a missing jitter".into(),
+            Sort::JitterRewritten => {
+                "a missing jitter and the period written for it exchanged".into()
+            }
             Sort::PairTakenOut => "a pair taken out".into(),
             Sort::PairPutIn => "a pair put in".into(),
             Sort::TaskMoved => "a task moved by another's coming".into(),
@@ -75,6 +83,8 @@ impl Sort {
             Sort::UnchangedPutBack => fits && call.puts_back_unchanged(),
             Sort::PeriodChanged => fits && call.changes_a_period(),
             Sort::CellChangedByPeriod => fits && call.changes_a_cell_by_period(),
+            Sort::OnlyPeriodChanged => fits && call.changes_nothing_but_a_period(),
+            Sort::JitterRewritten => fits && call.rewrites_a_jitter(),
             Sort::PairTakenOut => fits && has_further_pair(&call.base, &call.outcome),
             Sort::PairPutIn => fits && has_further_pair(&call.outcome, &call.base),
             Sort::TaskMoved => fits && call.moves_a_task(),
@@ -184,10 +194,7 @@ impl Tried {
 
     /// Whether the period changes of a task that nothing else touches.
     fn changes_a_period(&self) -> bool {
-        self.steady.iter().any(|(_, place)| {
-            let number = self.outcome.tasks[*place].transaction;
-            self.base.period_of(number) != self.outcome.period_of(number)
-        })
+        self.some_steady_task(|task| self.has_other_period(task))
     }
 
     /// Whether a decision between two such tasks changes.
@@ -196,6 +203,32 @@ impl Tried {
         some_cell(&self.steady, |row, cell| {
             is_set(&old, row.0, cell.0) != is_set(&new, row.1, cell.1)
         })
+    }
+
+    /// Whether the patch is the two records of a changed period, and a task under it has no jitter.
+    fn changes_nothing_but_a_period(&self) -> bool {
+        let is_missing = |task: &Task| task.jitter == MISSING_JITTER;
+        self.patch.len() == 2
+            && self.some_steady_task(|task| is_missing(task) && self.has_other_period(task))
+    }
+
+    /// Whether a task changes in the bytes of its jitter alone, and not in what they are read as.
+    fn rewrites_a_jitter(&self) -> bool {
+        let rewritten = self.base.jitters_rewritten();
+        let is_rewritten = |new: &Task| rewritten.contains(new) && !self.has_other_period(new);
+        self.outcome.tasks.iter().any(is_rewritten)
+    }
+
+    /// Whether some task that nothing but its transaction's record touches is as asked.
+    fn some_steady_task(&self, asked: impl Fn(&Task) -> bool) -> bool {
+        let tasks = &self.outcome.tasks;
+        self.steady.iter().any(|(_, place)| asked(&tasks[*place]))
+    }
+
+    /// Whether the period of this task's transaction is another one than in the base.
+    fn has_other_period(&self, task: &Task) -> bool {
+        let number = task.transaction;
+        self.base.period_of(number) != self.outcome.period_of(number)
     }
 
     /// Whether a task that is not touched comes to a later place.

@@ -1,6 +1,6 @@
 //! What a table's records say together.
 
-use crate::records::{Pair, Record, Task, Transaction, PAIR, TASK, TRANSACTION};
+use crate::records::{Pair, Record, Task, Transaction, MISSING_JITTER, PAIR, TASK, TRANSACTION};
 
 /// The transactions, tasks and pairs of a table, each in table order.
 #[derive(Clone, PartialEq, Eq, Debug, Default)]
@@ -37,6 +37,21 @@ impl Table {
             .iter()
             .find(|transaction| transaction.number == number)
             .map(|transaction| transaction.period)
+    }
+
+    /// The tasks whose jitter can be written otherwise and read alike, each written so: as the period
+    /// where it is missing, as missing where it is the period.
+    pub fn jitters_rewritten(&self) -> Vec<Task> {
+        let rewritten = |task: &Task| {
+            let period = self.period_of(task.transaction)?;
+            let jitter = match task.jitter {
+                MISSING_JITTER => period,
+                written if written == period => MISSING_JITTER,
+                _ => return None,
+            };
+            Some(Task { jitter, ..*task })
+        };
+        self.tasks.iter().filter_map(rewritten).collect()
     }
 
     /// The place of the task with this id, if it is listed.

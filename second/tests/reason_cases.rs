@@ -7,8 +7,9 @@ use std::collections::BTreeMap;
 use common::{margins, numbers_in, pairs_of_tasks, Margins};
 use second::answer::answer;
 use second::generate::Generator;
-use second::preempt::reason_for;
+use second::preempt::{distance, reason_for};
 use second::reasons::Reason;
+use second::records::{Task, MISSING_JITTER};
 use second::stream::question::Question;
 use second::stream::{Call, Case};
 use second::table::Table;
@@ -71,11 +72,17 @@ fn tables_of_reason_cases_come_in_all_sizes_and_stay_small() {
     assert!(sizes.iter().sum::<usize>() <= 20 * sizes.len());
 }
 
-/// The margins of every two tasks of a table that their times alone decide.
-fn margins_that_decide(table: &Table) -> Vec<Margins> {
+/// Every two tasks of a table that their times alone decide.
+fn pairs_decided_by_times(table: &Table) -> impl Iterator<Item = (&Task, &Task)> {
     let by_times = [Reason::Jitter, Reason::Response, Reason::Timing];
     pairs_of_tasks(table)
-        .filter(|(lower, upper)| by_times.contains(&reason_for(table, lower, upper)))
+        .filter(move |(lower, upper)| by_times.contains(&reason_for(table, lower, upper)))
+}
+
+/// The margins of every two tasks of a table that their times alone decide, with a jitter that is written.
+fn margins_that_decide(table: &Table) -> Vec<Margins> {
+    pairs_decided_by_times(table)
+        .filter(|(_, upper)| upper.jitter != MISSING_JITTER)
         .map(|(lower, upper)| margins(table, lower, upper))
         .collect()
 }
@@ -98,6 +105,34 @@ fn pairs_of_reason_cases_stand_at_both_edges_and_past_both() {
         let met = decided.iter().filter(|margins| sort(margins));
         assert!(met.count() >= 1000);
     }
+}
+
+/// The distances at which no rule but a missing jitter says yes, each with the period.
+fn distances_that_only_a_missing_jitter_passes(table: &Table) -> Vec<(u64, u32)> {
+    let alone = |(lower, upper): &(&Task, &Task)| {
+        upper.jitter == MISSING_JITTER && margins(table, lower, upper).response <= 0
+    };
+    let distance_and_period = |(lower, upper): (&Task, &Task)| {
+        let period = table
+            .period_of(lower.transaction)
+            .expect("a listed transaction");
+        (distance(upper.offset, lower.offset, period), period)
+    };
+    let pairs = pairs_decided_by_times(table).filter(alone);
+    pairs.map(distance_and_period).collect()
+}
+
+#[test]
+fn missing_jitters_of_reason_cases_decide_alone_at_both_ends_of_the_distance() {
+    let cases = reason_cases();
+    let passed: Vec<(u64, u32)> = accepted_tables(&cases)
+        .flat_map(|(_, table)| distances_that_only_a_missing_jitter_passes(&table))
+        .filter(|(_, period)| *period > 1)
+        .collect();
+    let shortest = passed.iter().filter(|(apart, _)| *apart == 0);
+    let is_longest = |(apart, period): &&(u64, u32)| *apart == u64::from(*period) - 1;
+    let longest = passed.iter().filter(is_longest);
+    assert!(shortest.count() >= 1000 && longest.count() >= 1000);
 }
 
 /// Where a number stands to the ids of a table.

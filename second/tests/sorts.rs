@@ -8,7 +8,7 @@ use second::figure2::figure2;
 use second::generate::Generator;
 use second::numbered_cases::patch_of;
 use second::preempt::true_map;
-use second::records::Transaction;
+use second::records::{Record, Task, Transaction};
 use second::sorts::Sorts;
 use second::stream::{Call, Case};
 use second::table::Table;
@@ -43,10 +43,28 @@ fn every_sort_is_met_by_the_generator() {
     assert_eq!(sorts.lines(), "");
     (0..3000).for_each(|_| sorts.count(&generator.next_case(Call::Patch)));
     let lines = sorts.lines();
-    assert_eq!(lines.lines().count(), 16);
+    assert_eq!(lines.lines().count(), 18);
     for line in lines.lines() {
         let count: usize = line.split(' ').next().unwrap().parse().unwrap();
         assert!(count >= 5, "{line}");
+    }
+}
+
+/// A patch in which a missing jitter is read as another period than before.
+const PERIOD_CHANGED: &str = "nothing but a period changed under a missing jitter";
+/// A patch in which a missing jitter is written out, or a written one left out, and read as before.
+const JITTER_REWRITTEN: &str = "a missing jitter and the period written for it exchanged";
+
+#[test]
+fn patches_under_missing_jitters_are_met_often_where_the_library_is_compared() {
+    let mut generator = Generator::from_seed(4);
+    let mut sorts = Sorts::default();
+    (0..3000).for_each(|_| sorts.count(&generator.next_case(Call::Patch)));
+    let lines = sorts.lines();
+    for name in [PERIOD_CHANGED, JITTER_REWRITTEN] {
+        let count = lines.lines().find_map(|line| line.strip_suffix(name));
+        let count: usize = count.unwrap().trim_end().parse().unwrap();
+        assert!(count >= 20, "{count} {name}");
     }
 }
 
@@ -91,6 +109,65 @@ fn a_period_changes_cells_or_not() {
     assert_eq!(with_period(9999), [&[changed], &MAPS[..]].concat());
     let cell = "a cell changed by a period alone";
     assert_eq!(with_period(5000), [&[changed, cell], &MAPS[..]].concat());
+}
+
+#[test]
+fn a_period_under_a_missing_jitter_is_told_where_nothing_else_changes() {
+    let base = table(&[task(1, 1, 0, 0), unmeasured(2, 2, 0)], &[]);
+    let old = base.transactions[0].record();
+    let longer = Transaction {
+        number: 1,
+        period: PERIOD + 1,
+    };
+    let with_more = |more: &[Record]| {
+        let put_in = [&[longer.record()], more].concat();
+        sorts_of(&call(&base, patch_image(&[old], &put_in)))
+    };
+    let changed = "a period changed under a task";
+    assert_eq!(
+        with_more(&[]),
+        [&[changed, PERIOD_CHANGED], &MAPS[..]].concat()
+    );
+    let further_task = unmeasured(3, 3, 0).record();
+    assert_eq!(with_more(&[further_task]), [&[changed], &MAPS[..]].concat());
+}
+
+#[test]
+fn a_jitter_is_told_that_is_written_otherwise_and_read_alike() {
+    let missing = unmeasured(2, 2, 0);
+    let with_jitter = |jitter| Task { jitter, ..missing };
+    let from_to = |old: Task, new: Task| {
+        let base = table(&[task(1, 1, 0, 0), old], &[]);
+        sorts_of(&call(&base, patch_image(&[old.record()], &[new.record()])))
+    };
+    let told = [&[JITTER_REWRITTEN], &MAPS[..]].concat();
+    let written = with_jitter(PERIOD);
+    assert_eq!(from_to(missing, written), told);
+    assert_eq!(from_to(written, missing), told);
+    assert_eq!(from_to(missing, with_jitter(PERIOD - 1)), MAPS);
+    assert_eq!(from_to(with_jitter(0), missing), MAPS);
+    let larger = Task {
+        stack: 2,
+        ..written
+    };
+    assert_eq!(from_to(missing, larger), MAPS);
+}
+
+#[test]
+fn a_jitter_written_as_the_period_that_was_is_not_read_alike() {
+    let missing = unmeasured(2, 2, 0);
+    let written = Task {
+        jitter: PERIOD,
+        ..missing
+    };
+    let longer = Transaction {
+        number: 1,
+        period: PERIOD + 1,
+    };
+    let base = table(&[missing], &[]);
+    let taken_out = [base.transactions[0].record(), missing.record()];
+    let patch = patch_image(&taken_out, &[longer.record(), written.record()]);
+    assert_eq!(sorts_of(&call(&base, patch)), MAPS);
 }
 
 #[test]

@@ -18,6 +18,7 @@ pub fn edited(random: &mut Random, table: &Table) -> Table {
         take_out_task,
         change_task,
         change_task,
+        rewrite_jitter,
         put_in_transaction,
         take_out_transaction,
         change_period,
@@ -29,6 +30,13 @@ pub fn edited(random: &mut Random, table: &Table) -> Table {
         change_pair,
     ]);
     edit(random, &mut new);
+    Table::read(&new.records())
+}
+
+/// The table with one period changed and nothing else.
+pub fn with_other_period(random: &mut Random, table: &Table) -> Table {
+    let mut new = table.clone();
+    change_period(random, &mut new);
     Table::read(&new.records())
 }
 
@@ -74,6 +82,16 @@ fn change_task(random: &mut Random, table: &mut Table) {
     }
 }
 
+/// Changes the bytes of a jitter and not what it is read as.
+fn rewrite_jitter(random: &mut Random, table: &mut Table) {
+    let rewritten = table.jitters_rewritten();
+    if !rewritten.is_empty() {
+        let new = random.pick(&rewritten);
+        table.tasks.retain(|task| task.id != new.id);
+        table.tasks.push(new);
+    }
+}
+
 fn put_in_transaction(random: &mut Random, table: &mut Table) {
     if table.transactions.len() < 16 {
         let record = unused_record(random, &table.records(), TRANSACTION);
@@ -91,19 +109,24 @@ fn take_out_transaction(random: &mut Random, table: &mut Table) {
     }
 }
 
+/// Changes the period of a transaction, mostly of one that has tasks.
 fn change_period(random: &mut Random, table: &mut Table) {
     if table.transactions.is_empty() {
         return;
     }
-    let rank = random.rank(table.transactions.len());
-    let number = table.transactions[rank].number;
+    let number = match table.tasks.is_empty() || random.one_in(4) {
+        true => random.pick(&table.transactions).number,
+        false => random.pick(&table.tasks).transaction,
+    };
     let own = table.tasks.iter().filter(|task| task.transaction == number);
     let shortest = own.map(|task| task.offset + 1).max().unwrap_or(1);
-    table.transactions[rank].period = match random.rank(3) {
+    let period = match random.rank(3) {
         0 => shortest,
         1 => random.time(shortest, (shortest + 100).min(MOST_PERIOD)),
         _ => random.time(shortest, MOST_PERIOD),
     };
+    table.transactions.retain(|kept| kept.number != number);
+    table.transactions.push(Transaction { number, period });
 }
 
 fn put_in_pair(random: &mut Random, table: &mut Table) {

@@ -1,6 +1,6 @@
 //! Patches that fit a base, and patches that fail on it.
 
-use crate::generate::edits::edited;
+use crate::generate::edits::{edited, with_other_period};
 use crate::generate::misfits::{misfit_a_record, one_too_many, unused_record};
 use crate::generate::random::Random;
 use crate::generate::tables::any_table;
@@ -17,6 +17,7 @@ pub fn fitting_patch(random: &mut Random, base: &Table) -> Vec<Record> {
         1 => Table::default(),
         2 => any_table(random),
         3..=12 if base.tasks.is_empty() => any_table(random),
+        13 | 14 => with_other_period(random, base),
         _ => (0..random.count(1, 4)).fold(base.clone(), |table, _| edited(random, &table)),
     };
     let put_back = match random.one_in(3) {
@@ -48,14 +49,17 @@ fn difference(base: &[Record], target: &[Record], put_back: &[Record]) -> Vec<Re
 
 /// A patch that takes out a record that is not in the base, byte for byte.
 pub fn absent_record(random: &mut Random, base: &[Record]) -> Vec<Record> {
-    let mut patch = fitting_patch(random, &Table::read(base));
+    let table = Table::read(base);
+    let mut patch = fitting_patch(random, &table);
     let kind = random.pick(&[TRANSACTION, TASK, PAIR]);
-    let absent = match base.is_empty() || random.one_in(3) {
-        true => unused_record(random, base, kind),
-        false => {
+    let rewritten = table.jitters_rewritten();
+    let absent = match random.rank(3) {
+        0 if !rewritten.is_empty() => random.pick(&rewritten).record(),
+        0 | 1 if !base.is_empty() => {
             let present = base[random.low_or_high_rank(base.len())];
             slightly_changed(random, present)
         }
+        _ => unused_record(random, base, kind),
     };
     patch.retain(|record| record.way() != TAKEN_OUT || record.key() != absent.key());
     patch.push(absent);

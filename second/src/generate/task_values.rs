@@ -19,8 +19,8 @@ pub struct Style {
 enum Times {
     /// Over their whole ranges, often at the ends.
     Any,
-    /// As section 6 of the paper has them: offsets in the first half of the period, no jitter, and
-    /// from offset to response at most the period divided by `parts`.
+    /// As section 6 of the paper has them, but for the jitters that are missing: offsets in the first
+    /// half of the period, jitters of 0, and from offset to response at most the period divided by `parts`.
     Brief { parts: u32 },
 }
 
@@ -127,13 +127,21 @@ fn draw_offset(random: &mut Random, times: Times, period: u32) -> u32 {
     }
 }
 
+/// A jitter, missing in two tasks of five.
 fn draw_jitter(random: &mut Random, times: Times, period: u32) -> u32 {
+    match random.rank(5) {
+        0 | 1 => MISSING_JITTER,
+        _ => draw_written_jitter(random, times, period),
+    }
+}
+
+fn draw_written_jitter(random: &mut Random, times: Times, period: u32) -> u32 {
     if let Times::Brief { .. } = times {
         return 0;
     }
     match random.rank(8) {
         0..=2 => 0,
-        3 => MISSING_JITTER,
+        3 => period,
         4 => MOST_PERIOD,
         5 => 1,
         6 => random.time(0, MOST_PERIOD),
@@ -154,16 +162,16 @@ fn draw_response(random: &mut Random, times: Times, offset: u32, period: u32) ->
     }
 }
 
-/// Sets some responses and jitters to the last value that says no or the first that says yes.
+/// Sets some responses and written jitters to the last value that says no or the first that says yes.
 pub fn sharpen(random: &mut Random, table: &mut Table) {
     for _ in 0..table.tasks.len() / 2 {
         let lower = random.rank(table.tasks.len());
         let upper = random.rank(table.tasks.len());
         let (below, above) = (table.tasks[lower], table.tasks[upper]);
-        let period = table.period_of(below.transaction).unwrap_or(1);
-        if below.transaction != above.transaction || below.priority >= above.priority {
+        if !written_times_decide(&below, &above) {
             continue;
         }
+        let period = table.period_of(below.transaction).unwrap_or(1);
         let apart = distance(above.offset, below.offset, period) as u32;
         let past_edge = random.time(0, 1);
         match random.rank(2) {
@@ -171,4 +179,11 @@ pub fn sharpen(random: &mut Random, table: &mut Table) {
             _ => table.tasks[upper].jitter = apart + past_edge,
         }
     }
+}
+
+/// Whether the two tasks leave their pair to written times; a missing jitter says yes at every distance.
+fn written_times_decide(below: &Task, above: &Task) -> bool {
+    below.transaction == above.transaction
+        && below.priority < above.priority
+        && above.jitter != MISSING_JITTER
 }
