@@ -1,6 +1,6 @@
-//! The six tasks of figure 2 as a table.
+//! The six tasks of figure 2 as a table, with their jitters written or missing.
 
-use crate::records::{Task, Transaction};
+use crate::records::{Task, Transaction, MISSING_JITTER};
 use crate::table::Table;
 
 /// Figure 2 with period 10,000 in both transactions and every jitter written as 0.
@@ -21,6 +21,15 @@ pub fn figure2() -> Table {
         ],
         pairs: Vec::new(),
     }
+}
+
+/// Figure 2 with no jitter measured.
+pub fn unmeasured() -> Table {
+    let mut table = figure2();
+    for task in &mut table.tasks {
+        task.jitter = MISSING_JITTER;
+    }
+    table
 }
 
 /// A task of figure 2, whose id starts with its transaction's number.

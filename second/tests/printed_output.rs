@@ -14,6 +14,10 @@ use second::table::Table;
 const FIGURE_2: &str = "tasks 6\nchain 8: 11 12 23\npath 10\ntransactions 9\nlevels 10\n";
 const FIGURE_2_REASONS: &str = "11 12 response\n12 23 transaction\n";
 
+/// Each task nests in all of lower priority: 4 + 1 + 3 + 2, and 4 + 1 + 2 and 1 + 3 by transactions.
+const UNMEASURED: &str = "tasks 6\nchain 10: 11 12 23 13\npath 10\ntransactions 11\nlevels 10\n";
+const UNMEASURED_REASONS: &str = "11 12 jitter\n12 23 transaction\n23 13 transaction\n";
+
 /// The commands that print what they say of one image, and read all of their input for it.
 const REPORTS: [&str; 2] = ["bounds", "reasons"];
 
@@ -50,6 +54,17 @@ fn figure_2_is_the_example_and_the_command() {
     assert_eq!(printed(&["bounds"], example), FIGURE_2);
     let reasons = include_str!("../../examples/figure2.reasons.txt");
     assert_eq!(printed(&["reasons"], example), reasons);
+}
+
+#[test]
+fn figure_2_with_no_jitter_measured_is_the_example_and_the_command() {
+    let example = include_bytes!("../../examples/unmeasured.tb");
+    assert_eq!(run(&["unmeasured"], &[]).stdout, example);
+    assert_eq!(printed(&["bounds"], example), UNMEASURED);
+    assert_eq!(printed(&["reasons"], example), UNMEASURED_REASONS);
+    let bounds = include_str!("../../examples/unmeasured.txt");
+    let reasons = include_str!("../../examples/unmeasured.reasons.txt");
+    assert_eq!((bounds, reasons), (UNMEASURED, UNMEASURED_REASONS));
 }
 
 #[test]
