@@ -5,7 +5,7 @@ ghost use mathlib.Core.List.{[]};
 ghost use Prim.Native.Nat.{_<_};
 ghost use lib.ListN.{length, getD};
 ghost use Rattle.rules.specs.Blocks.{records};
-ghost use Rattle.rules.specs.Records.{jitterOf, taskOf, transactions, tasks, taskCount, taskAt, periodIn, periodAt};
+ghost use Rattle.rules.specs.Records.{jitterOf, taskOf, transactions, tasks, taskCount, periodIn, periodAt};
 ghost use Rattle.rules.specs.Refusals.{accepted, tableVerdict};
 ghost use Rattle.preempt.specs.Bits.{column};
 ghost use Rattle.preempt.specs.Tasks.{TasksRead};
@@ -29,23 +29,26 @@ pub struct Tasks {
     pub periods: [u32; 64],
 }
 
-// A jitter, where one that is missing is read as 0.
-fn jitter_of(jitter: u32) -> u32
-    ensures { λ r. ⌜ r ≡ jitterOf jitter ⌝ }
+// A jitter, where one that is missing is read as the period of the task's transaction.
+fn jitter_of(period: u32, jitter: u32) -> u32
+    ensures { λ r. ⌜ r ≡ jitterOf period jitter ⌝ }
 {
-    if jitter == 4_294_967_295 { 0 } else { jitter }
+    if jitter == 4_294_967_295 {
+        return period;
+    }
+    jitter
 }
 
-// What a task record says.
-pub fn task_of(fields: &[u8]) -> Task
-    ensures { λ r. ⌜ r ≡ taskOf (now (fields .entry)) ⌝ }
+// What a task record says, where its transaction has this period.
+pub fn task_of(period: u32, fields: &[u8]) -> Task
+    ensures { λ r. ⌜ r ≡ taskOf period (now (fields .entry)) ⌝ }
 {
     Task {
         id: two_bytes(fields, 2),
         transaction: two_bytes(fields, 4),
         priority: two_bytes(fields, 6),
         offset: four_bytes(fields, 8),
-        jitter: jitter_of(four_bytes(fields, 12)),
+        jitter: jitter_of(period, four_bytes(fields, 12)),
         response: four_bytes(fields, 16),
         size: two_bytes(fields, 20),
     }
@@ -60,13 +63,13 @@ fn task_record(image: &[u8], first: usize, place: usize) -> &[u8]
     record_at(image, first + place)
 }
 
-// The task at a place.
-pub fn task_at(image: &[u8], first: usize, place: usize) -> Task
+// The task at a place, where its transaction has this period.
+pub fn task_at(image: &[u8], first: usize, place: usize, period: u32) -> Task
     requires { ⌜ accepted (tableVerdict (now image)) ≡ true ⌝ }
     requires { ⌜ (first ≡ length (transactions (records (now image)))) × (place < taskCount (records (now image))) ⌝ }
-    ensures { λ r. ⌜ r ≡ taskAt (records (now (image .entry))) place ⌝ }
+    ensures { λ r. ⌜ r ≡ taskOf period (getD (tasks (records (now (image .entry)))) place []) ⌝ }
 {
-    task_of(task_record(image, first, place))
+    task_of(period, task_record(image, first, place))
 }
 
 // The period of the transaction with this number, of the count that a table has, or 0 where it is not listed.
@@ -124,7 +127,7 @@ pub fn read_tasks(image: &[u8]) -> Tasks
     let mut sizes = [0u32; 64];
     let mut i: usize = 0;
     while i < count {
-        let task = task_at(image, first, i);
+        let task = task_at(image, first, i, periods[i]);
         ids[i] = task.id;
         transactions[i] = task.transaction;
         priorities[i] = task.priority;

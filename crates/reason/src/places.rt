@@ -32,9 +32,9 @@ pub fn reason_at(image: &[u8], i: usize, j: usize) -> Reason
 {
     let first = count_kind(image, 1);
     let count = count_kind(image, 2);
-    let low = task_at(image, first, i);
-    let high = task_at(image, first, j);
     let period = period_at(image, first, i);
+    let low = task_at(image, first, i, period);
+    let high = task_at(image, first, j, period_at(image, first, j));
     let barred = is_barred(image, first + count, low.id, high.id);
     reason_of(period, barred, low, high)
 }

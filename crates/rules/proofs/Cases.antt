@@ -1,4 +1,4 @@
--- Cases 1 to 11 of "On both sides", as one table with one theorem over it.
+-- Cases 1 to 11 of "On both sides", as one table with one theorem over it; their reasons; and the same for jitters left out.
 use Prim.Native.Nat.{ℕ, _/_, _%_}
 use mathlib.Core.List.{List, [], _∷_, _++_}
 use mathlib.Core.Bool.{true, false}
@@ -6,11 +6,11 @@ use mathlib.Core.Path.{_≡_, refl}
 use lib.ListN.{set, replicate}
 use Rattle.rules.specs.declared.Reason.the-variants.{Transaction, Jitter, Response, Priority, Pair, Timing}
 use Rattle.rules.specs.Numbers.{sumTo, largestTo, upTo, lowest, blank}
-use Rattle.rules.specs.Records.{ofKind, formWrong, rangeWrong, tooMany, referenceWrong}
+use Rattle.rules.specs.Records.{taskAt, ofKind, formWrong, rangeWrong, tooMany, referenceWrong}
 use Rattle.rules.specs.Preempt.{reason, mayPreempt, barred, reasonAt, decided, mapFrom}
 use Rattle.rules.specs.Chains.{related}
-use Rattle.rules.specs.Patches.{same, has, takenOut, putIn, without, put, touched, carried}
-use Rattle.rules.specs.Refusals.{recordsVerdict}
+use Rattle.rules.specs.Patches.{same, has, takenOut, putIn, without, put, outcome, touched, carried}
+use Rattle.rules.specs.Refusals.{refusal, recordsVerdict, absentRefusal}
 use Rattle.rules.proofs.Enumerate.{figures}
 use Rattle.rules.proofs.Enumerate.Paths.{pathSum, sumFrom}
 use Rattle.rules.proofs.Enumerate.Winner.{notAfter, wins, winner, winnerTo}
@@ -57,18 +57,22 @@ together Oi Ri Oj Jj = transaction 1 10000 ∷ task 1 1 Oi 1 0 Ri 1 ∷ task 2 1
 abbrev pub asunder : ℕ → List (List ℕ) → List (List ℕ)
 asunder Pj pairs = transaction 1 10000 ∷ transaction 2 10000 ∷ task 1 1 0 1 0 0 1 ∷ task 2 2 0 Pj 0 0 1 ∷ pairs
 
--- the six tasks of the paper's figure 2
-abbrev pub figure2 : List (List ℕ)
-figure2 =
+-- the six tasks of the paper's figure 2, each with this jitter
+abbrev pub figure2With : ℕ → List (List ℕ)
+figure2With J =
     transaction 1 10000
     ∷ transaction 2 10000
-    ∷ task 11 1 0 1 0 3854 4
-    ∷ task 12 1 1697 2 0 3837 1
-    ∷ task 13 1 4635 4 0 4781 2
-    ∷ task 21 2 0 3 0 393 2
-    ∷ task 22 2 617 1 0 3854 1
-    ∷ task 23 2 2588 3 0 3699 3
+    ∷ task 11 1 0 1 J 3854 4
+    ∷ task 12 1 1697 2 J 3837 1
+    ∷ task 13 1 4635 4 J 4781 2
+    ∷ task 21 2 0 3 J 393 2
+    ∷ task 22 2 617 1 J 3854 1
+    ∷ task 23 2 2588 3 J 3699 3
     ∷ []
+
+-- where it is 0, as the scope has it
+abbrev pub figure2 : List (List ℕ)
+figure2 = figure2With 0
 
 -- cases 1 to 10 in their order, figure 2 itself, and case 11
 abbrev pub cases : List Case
@@ -103,3 +107,40 @@ pub reasons-of-cases : (reasonAt (together 617 2588 2588 0) 0 1 ≡ Timing)
     × (reasonAt figure2 1 5 ≡ Transaction)
 unfolding lowest ofKind reason barred reasonAt
 reasons-of-cases = (refl, refl, refl, refl, refl, refl, refl, refl)
+
+-- the jitter that means not measured
+abbrev pub missing : ℕ
+missing = 4294967295
+
+-- case 3 without its jitter, at a distance of 617, and the same in a shorter period
+abbrev pub unsure : List (List ℕ)
+unsure = together 617 617 0 missing
+
+abbrev pub shorter : List (List ℕ)
+shorter = transaction 1 10000 ∷ puts (transaction 1 700) ∷ []
+
+-- jitters left out: at that distance and at the largest; where a pair forbids it; in figure 2, of every task; and under a
+-- patch that changes nothing but the period
+abbrev pub casesUnmeasured : List Case
+casesUnmeasured =
+    preempted unsure 0 1 true
+    ∷ preempted (together 0 0 1 missing) 0 1 true
+    ∷ preempted (unsure ++ (precedence 1 2 ∷ [])) 0 1 false
+    ∷ shown (figure2With missing) (shownAs 10 (11 ∷ 12 ∷ 23 ∷ 13 ∷ []) 10 11 10)
+    ∷ patched unsure shorter (shownAs 2 (1 ∷ 2 ∷ []) 2 2 2) 2
+    ∷ []
+
+-- each of them holds of the definitions
+pub unmeasured-cases : AllHold casesUnmeasured
+unfolding sumTo largestTo upTo lowest blank ofKind formWrong rangeWrong tooMany referenceWrong reason mayPreempt barred decided mapFrom related same has takenOut putIn without put touched carried recordsVerdict figures pathSum sumFrom notAfter wins winner winnerTo heaviest
+unmeasured-cases = all-hold casesUnmeasured tt
+
+-- the jitter is read as the period, and after the patch as the new one; with the period written in its place the task is
+-- read alike, but neither record stands for the other where a patch takes one out
+pub unmeasured-read : (taskAt unsure 1 .jitter ≡ 10000)
+    × (taskAt (outcome unsure shorter) 1 .jitter ≡ 700)
+    × (taskAt unsure 1 ≡ taskAt (together 617 617 0 10000) 1)
+    × (absentRefusal unsure (task 2 1 0 2 10000 0 1 ∷ []) ≡ refusal 9 0)
+    × (absentRefusal (together 617 617 0 10000) (task 2 1 0 2 missing 0 1 ∷ []) ≡ refusal 9 0)
+unfolding lowest ofKind same has takenOut putIn without put
+unmeasured-read = (refl, refl, refl, refl, refl)

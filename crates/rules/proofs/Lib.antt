@@ -9,6 +9,7 @@ pub mod Refusals
 pub mod Image
 pub mod Table
 pub mod Patch
+pub mod Unmeasured
 pub mod FourBounds
 pub mod Enumerate
 pub mod Cases

@@ -24,18 +24,23 @@ secondOf r = le2 r 4
 abbrev pub periodOf : List ℕ → ℕ
 periodOf r = le4 r 8
 
--- 4,294,967,295 means not measured, and is read as 0
-abbrev pub jitterOf : ℕ → ℕ
-jitterOf j = cond (eqb j 4294967295) 0 j
+-- of a jitter: 4,294,967,295 means not measured
+abbrev pub unmeasured : ℕ → Bool
+unmeasured j = eqb j 4294967295
 
-abbrev pub taskOf : List ℕ → Task
-taskOf r =
+-- and is read as the period of the task's transaction
+abbrev pub jitterOf : ℕ → ℕ → ℕ
+jitterOf period j = cond (unmeasured j) period j
+
+-- what a task's record says, where its transaction has this period
+abbrev pub taskOf : ℕ → List ℕ → Task
+taskOf period r =
     record {
       id = numberOf r;
       transaction = secondOf r;
       priority = le2 r 6;
       offset = le4 r 8;
-      jitter = jitterOf (le4 r 12);
+      jitter = jitterOf period (le4 r 12);
       response = le4 r 16;
       size = le2 r 20;
     }
@@ -82,7 +87,7 @@ nameRight r = leb 1 (numberOf r) && (leb 1 (secondOf r) && between 1 (le2 r 6) 2
 
 -- J alone may be missing
 abbrev pub jitterRight : ℕ → Bool
-jitterRight j = leb j 1000000000 || eqb j 4294967295
+jitterRight j = leb j 1000000000 || unmeasured j
 
 -- of a task: O, J, and R from O on
 abbrev pub timeRight : List ℕ → Bool
@@ -119,9 +124,6 @@ pairs rs = ofKind 3 rs
 abbrev pub taskCount : List (List ℕ) → ℕ
 taskCount rs = length (tasks rs)
 
-abbrev pub taskAt : List (List ℕ) → ℕ → Task
-taskAt rs i = taskOf (getD (tasks rs) i [])
-
 -- where a number or id stands among records of one kind, or their count where it is not listed
 abbrev pub placeOf : List (List ℕ) → ℕ → ℕ
 placeOf rs x = lowest (λ k. eqb (numberOf (getD rs k [])) x) (length rs)
@@ -136,6 +138,10 @@ periodIn rs x = periodOf (getD (transactions rs) (placeOf (transactions rs) x) [
 -- the period of the transaction of the task at place i
 abbrev pub periodAt : List (List ℕ) → ℕ → ℕ
 periodAt rs i = periodIn rs (secondOf (getD (tasks rs) i []))
+
+-- the task at place i
+abbrev pub taskAt : List (List ℕ) → ℕ → Task
+taskAt rs i = taskOf (periodAt rs i) (getD (tasks rs) i [])
 
 -- at most 16 transactions, 64 tasks, 256 pairs
 abbrev pub mostOf : ℕ → ℕ

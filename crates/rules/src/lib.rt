@@ -30,7 +30,7 @@ pub struct Verdict {
     pub place: u32,
 }
 
-// What a task record says, with a missing jitter read as 0.
+// What a task record says, with a missing jitter read as the period of its transaction.
 pub struct Task {
     pub id: u32,
     pub transaction: u32,

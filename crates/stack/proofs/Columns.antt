@@ -7,7 +7,7 @@ use borrow.Author.Tests.{ltb-true, ltb-false}
 use lib.ListN.{getD, length, List·getD-eq-default}
 use lib.Dec.{ltb}
 use Rattle.rules.specs.declared.Task.{Task}
-use Rattle.rules.specs.Records.{tasks, taskCount, taskOf, taskAt}
+use Rattle.rules.specs.Records.{secondOf, tasks, taskCount, taskOf, taskAt, periodIn}
 use Rattle.rules.proofs.Numbers.{either}
 use Rattle.preempt.specs.Bits.{column}
 use Rattle.preempt.proofs.Columns.{column-length, column-at, column-beyond}
@@ -26,10 +26,10 @@ column-total n f few beyond i =
     List·getD-eq-default (column n f) 0 past ∙ sym (beyond i out)))
 
 -- a field that an empty record has at 0 is read the same at every place
-pub field-total : (rs : List (List ℕ)) (field : Task → ℕ) (l : List ℕ) → taskCount rs ≤ 64 → field (taskOf []) ≡ 0 → l ≡ column (taskCount rs) (λ i. field (taskAt rs i))
+pub field-total : (rs : List (List ℕ)) (field : Task → ℕ) (l : List ℕ) → taskCount rs ≤ 64 → field (taskOf (periodIn rs (secondOf [])) []) ≡ 0 → l ≡ column (taskCount rs) (λ i. field (taskAt rs i))
     → (i : ℕ) → getD l i 0 ≡ field (taskAt rs i)
 field-total rs field l few none read i =
     ap (λ (c : List ℕ). getD c i 0) read
     ∙ column-total (taskCount rs) (λ k. field (taskAt rs k)) few
-    (λ k out. ap (λ (r : List ℕ). field (taskOf r)) (List·getD-eq-default (tasks rs) [] out) ∙ none)
+    (λ k out. ap (λ (r : List ℕ). field (taskOf (periodIn rs (secondOf r)) r)) (List·getD-eq-default (tasks rs) [] out) ∙ none)
     i

@@ -154,6 +154,10 @@ module _ (base patch : List (List ℕ)) (i : ℕ) (untouched : touched base patc
         let same = found-by-number (transactions base) (valid-transactions-rise base table) r (has-among-kind 1 base r kind stood) .1 in
         sym (ap periodOf (rw number at same))
 
+    -- so it is read as it was, also where its jitter is the period
+    pub task-before : Valid (outcome base patch) → taskAt base (oldPlace base patch i) ≡ taskAt (outcome base patch) i
+    task-before after = rw (old-record, period-before after)
+
 -- the law that makes demand 3 hold: of two tasks that a patch does not touch, the outcome decides as its base did at their old places
 pub untouched-decided : (base patch : List (List ℕ)) → Valid base → Valid (outcome base patch)
     → (i j : ℕ) → i < taskCount (outcome base patch) → j < taskCount (outcome base patch)
@@ -165,5 +169,6 @@ untouched-decided base patch table after i j h l untouched untouched′ =
       old-record base patch i untouched table h,
       old-record base patch j untouched′ table l,
       period-before base patch i untouched table h after,
+      period-before base patch j untouched′ table l after,
       barred-before base patch i untouched (numberOf (taskRecord base patch j)),
     )

@@ -1,13 +1,13 @@
 -- What the range tests say of a record's fields, in plain numbers.
 use Prim.Native.Nat.{ℕ, _+_, _≤_, _<_}
 use mathlib.Core.List.{List}
-use mathlib.Core.Bool.{true, false, _&&_, _||_, not}
+use mathlib.Core.Bool.{true, false, _&&_, not}
 use mathlib.Core.Path.{_≡_, refl}
 use native.Mathlib.Omega.{arith}
 use borrow.Author.Tests.{leb-true, eqb-false, eq-eqb, ne-eqb, not-true, not-false}
 use lib.Dec.{leb, eqb}
 use Rattle.rules.specs.Numbers.{Bytes, le2, le4, between}
-use Rattle.rules.specs.Records.{kindOf, numberOf, secondOf, periodOf, jitterOf, sortOf, transactionRight, nameRight, timeRight, taskRight, pairRight, rangeWrong}
+use Rattle.rules.specs.Records.{kindOf, numberOf, secondOf, periodOf, unmeasured, jitterOf, sortOf, transactionRight, nameRight, jitterRight, timeRight, taskRight, pairRight, rangeWrong}
 use Rattle.rules.proofs.Numbers.{either, never}
 use Rattle.rules.proofs.Tests.{both-first, both-second}
 
@@ -66,16 +66,16 @@ pub record TaskRanges (r : List ℕ) : Type 0 where
   pub some-priority : 1 ≤ le2 r 6
   pub most-priority : le2 r 6 ≤ 255
   pub most-offset : le4 r 8 ≤ 999999999
-  pub most-jitter : jitterOf (le4 r 12) ≤ 1000000000
+  pub most-jitter : (period : ℕ) → period ≤ 1000000000 → jitterOf period (le4 r 12) ≤ 1000000000
   pub response-from-offset : le4 r 8 ≤ le4 r 16
   pub most-response : le4 r 16 ≤ 2000000000
   pub some-size : 1 ≤ le2 r 20
 
--- a jitter that is in range, or missing, is read as one in range
-jitter-most : (j : ℕ) → (leb j 1000000000 || eqb j 4294967295) ≡ true → jitterOf j ≤ 1000000000
-jitter-most j h =
-    either (eqb j 4294967295)
-    (λ t. rw t (omega arith))
+-- a jitter that is in range, or missing where the period is, is read as one in range
+jitter-most : (j : ℕ) → jitterRight j ≡ true → (period : ℕ) → period ≤ 1000000000 → jitterOf period j ≤ 1000000000
+jitter-most j h period short =
+    either (unmeasured j)
+    (λ t. rw t short)
     (λ t. rw t (either (leb j 1000000000) (leb-true j 1000000000) (λ s. never false (rw (s, t) at h) refl)))
 
 -- a task that passes its test has them
@@ -87,14 +87,14 @@ task-ranges r h =
     let name′ = both-second (leb 1 (numberOf r)) _ name in
     let priority = both-second (leb 1 (secondOf r)) (between 1 (le2 r 6) 255) name′ in
     let time′ = both-second (leb (le4 r 8) 999999999) _ time in
-    let response = both-second (leb (le4 r 12) 1000000000 || eqb (le4 r 12) 4294967295) (between (le4 r 8) (le4 r 16) 2000000000) time′ in
+    let response = both-second (jitterRight (le4 r 12)) (between (le4 r 8) (le4 r 16) 2000000000) time′ in
     record {
       some-id = leb-true 1 (numberOf r) (both-first (leb 1 (numberOf r)) _ name);
       some-transaction = leb-true 1 (secondOf r) (both-first (leb 1 (secondOf r)) _ name′);
       some-priority = between-least 1 (le2 r 6) 255 priority;
       most-priority = between-most 1 (le2 r 6) 255 priority;
       most-offset = leb-true (le4 r 8) 999999999 (both-first (leb (le4 r 8) 999999999) _ time);
-      most-jitter = jitter-most (le4 r 12) (both-first (leb (le4 r 12) 1000000000 || eqb (le4 r 12) 4294967295) _ time′);
+      most-jitter = jitter-most (le4 r 12) (both-first (jitterRight (le4 r 12)) _ time′);
       response-from-offset = between-least (le4 r 8) (le4 r 16) 2000000000 response;
       most-response = between-most (le4 r 8) (le4 r 16) 2000000000 response;
       some-size = leb-true 1 (le2 r 20) (both-second (timeRight r) (leb 1 (le2 r 20)) rest);

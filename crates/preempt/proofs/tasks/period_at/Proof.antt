@@ -1,5 +1,4 @@
 -- The record names the transaction.
-use Prim.Native.Nat.{ℕ}
 use mathlib.Core.Path.{ap, _∙_}
 use borrow.Author.Needs.{needs}
 use Rattle.rules.specs.Blocks.{records}

@@ -1,16 +1,17 @@
 -- The loop keeps each array filled up to the next place; the tasks stand behind the transactions.
 use Prim.Native.Nat.{ℕ, _-_, _≤_}
-use mathlib.Core.List.{List}
+use mathlib.Core.List.{List, []}
 use mathlib.Core.Path.{_≡_, ap, _∙_}
 use native.Mathlib.Omega.{arith}
 use borrow.Author.Needs.{needs}
+use lib.ListN.{getD}
 use Rattle.table.proofs.Counts.{count-asked}
 use Rattle.rules.specs.declared.Task.{Task}
-use Rattle.rules.specs.Records.{taskCount, taskAt, periodAt}
+use Rattle.rules.specs.Records.{tasks, taskCount, taskOf, taskAt, periodAt}
 use Rattle.rules.specs.Blocks.{records}
 use Rattle.preempt.specs.Bits.{column}
 use Rattle.preempt.proofs.Accepted.{shape}
-use Rattle.preempt.proofs.Columns.{column-none, column-filled}
+use Rattle.preempt.proofs.Columns.{column-none, column-at, column-filled}
 use Rattle.preempt.proofs.tasks.read_tasks.Statement.{statement}
 use Rattle.preempt.proofs.tasks.read_tasks.Tie as tie
 
@@ -65,6 +66,12 @@ loop-holds c =
     let image = start .args .image .now in
     let s = shape image (c .before .before .before .shared-slice-known .given) (start .pre) in
     (omega arith, omega (arith, c .before .before .count-kind .ensures .0, s .few-transactions), omega (arith, c .before .count-kind2 .ensures .0, s .few-tasks), column-none (id-of image), column-none (transaction-of image), column-none (priority-of image), column-none (offset-of image), column-none (jitter-of image), column-none (response-of image), column-none (size-of image))
+
+mul-task-at : tie.Need-mul-task-at Inv-loop μ-loop
+mul-task-at c = search needs
+
+array-read-task-at : tie.Need-array-read-task-at Inv-loop μ-loop
+array-read-task-at c = search needs
 
 task-at-requires : tie.Need-task-at-requires Inv-loop μ-loop
 task-at-requires c κs =
@@ -123,7 +130,10 @@ loop-again : tie.Need-loop-again Inv-loop μ-loop
 loop-again c =
     let image = c .before .before .before .before .before .before .before .args .image .now in
     let s = c .before .before .loop in
-    let here = c .task-at .ensures in (
+    let rs = records image in
+    let found = c .before .before .before in
+    let own : getD (found .read-periods .result) (s .i) 0 ≡ periodAt rs (s .i) = ap (λ (l : List ℕ). getD l (s .i) 0) (found .read-periods .ensures) ∙ column-at (found .before .count-kind2 .result) (periodAt rs) (s .i) (omega arith) (omega arith) in
+    let here = c .task-at .ensures ∙ ap (λ (t : ℕ). taskOf t (getD (tasks rs) (s .i) [])) own in (
       omega arith,
       omega arith,
       omega arith,
@@ -165,6 +175,8 @@ read-tasks-spec =
     count-kind-requires-2
     read-periods-requires
     loop-holds
+    mul-task-at
+    array-read-task-at
     task-at-requires
     mul-ids
     array-write-ids

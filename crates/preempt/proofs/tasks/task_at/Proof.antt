@@ -12,7 +12,7 @@ task-of-requires : tie.Need-task-of-requires
 task-of-requires c κs = search needs
 
 returns : tie.Need-returns
-returns c = c .task-of .ensures ∙ ap taskOf (c .before .task-record .ensures)
+returns c = c .task-of .ensures ∙ ap (taskOf (c .before .before .before .args .period)) (c .before .task-record .ensures)
 
 pub task-at-spec : {M : Type 1} → statement M
 task-at-spec = tie.close (tie.spec task-record-requires task-of-requires returns)

@@ -31,7 +31,7 @@ two-bytes-requires-4 c κs = search needs
 
 returns : tie.Need-returns
 returns c =
-    let jitter = c .before .before .jitter-of .ensures ∙ ap jitterOf (c .before .before .before .four-bytes2 .ensures) in
+    let jitter = c .before .before .jitter-of .ensures ∙ ap (jitterOf (c .before .before .before .before .before .before .before .before .before .args .period)) (c .before .before .before .four-bytes2 .ensures) in
     rw (c .before .before .before .before .before .before .before .two-bytes .ensures .0, c .before .before .before .before .before .before .two-bytes2 .ensures .0, c .before .before .before .before .before .two-bytes3 .ensures .0, c .before .before .before .before .four-bytes .ensures, jitter, c .before .four-bytes3 .ensures, c .two-bytes4 .ensures .0)
 
 pub task-of-spec : {M : Type 1} → statement M
