@@ -68,7 +68,7 @@ extern "C" {
 
 /* Why a task may be preempted by another: the first of these rules that holds. */
 #define SIODLOMIL_REASON_TRANSACTION 1 /* they are of different transactions */
-#define SIODLOMIL_REASON_JITTER 2      /* the jitter of the high task is above the distance of their offsets */
+#define SIODLOMIL_REASON_JITTER 2      /* the jitter of the high task is above the distance of their offsets, or missing */
 #define SIODLOMIL_REASON_RESPONSE 3    /* the low task may not yet have ended when the high one is activated again */
 
 /* Why it may not: the first of these rules that forbids it. */
@@ -122,6 +122,9 @@ typedef struct siodlomil_offending_answer {
  * map    written: at least 64 rows. Bit j of row i, counted from the lowest, is set where the task at place i may be
  *        preempted by the task at place j; a task's place is its rank among the table's tasks, from 0. Rows and bits at
  *        or beyond the number of tasks are 0. Rows beyond the 64 keep their values.
+ *
+ * A jitter that is missing (4,294,967,295, not measured) is read as the period of its task's transaction, which is above
+ * every distance: such a task may preempt each task of its transaction that has lower priority, unless a pair forbids it.
  */
 siodlomil_map_answer siodlomil_map(const uint8_t *image, size_t image_bytes, uint64_t *map, size_t map_rows);
 
@@ -163,6 +166,7 @@ siodlomil_reason_answer siodlomil_reason(const uint8_t *image, size_t image_byte
  * new_map   written: at least 64 rows. A bit for two tasks that the patch does not touch is the base map's at their old
  *           places, any other is decided from the outcome. Rows beyond the 64 keep their values.
  *
+ * Records are compared byte for byte: a missing jitter is not equal to a written one, even to one that is the period.
  * A task is touched where a patch record is its own record, names it in a pair, or is its transaction's record. Where
  * base_map is what siodlomil_map fills in for the base, new_map is what it would fill in for the outcome.
  */
