@@ -7,7 +7,8 @@ use lib.ListN.{length}
 use Rattle.rules.specs.Numbers.{sumTo, largestTo}
 use Rattle.rules.specs.Records.{taskCount, transactions}
 use Rattle.rules.specs.Chains.{weight, Path, All, Largest, Figures, FiguresOf, related, sizeAt, idAt, priorityAt, inTransaction, levelBound}
-use Rattle.rules.proofs.FourBounds.Order.{related-rises, size-in-level}
+use Rattle.rules.proofs.Related.{Climbing, related-rises}
+use Rattle.rules.proofs.FourBounds.Order.{size-in-level}
 use Rattle.rules.proofs.Enumerate.Paths.{every, pathSum, pathSum-largest, largest-path}
 use Rattle.rules.proofs.Enumerate.Chains.{heaviest, heaviest-heaviest}
 pub mod Paths
@@ -38,14 +39,14 @@ figures rs rows =
 abbrev pub IdsApart : List (List ℕ) → Type 0
 IdsApart rs = (i j : ℕ) → i < taskCount rs → j < taskCount rs → idAt rs i ≡ idAt rs j → i ≡ j
 
--- they are those that the definitions ask for, with any map
-pub figures-right : (rs : List (List ℕ)) (rows : List ℕ) → IdsApart rs → FiguresOf rs rows (figures rs rows)
+-- they are those that the definitions ask for, with any map, where tasks yield only to higher priorities
+pub figures-right : (rs : List (List ℕ)) (rows : List ℕ) → Climbing rs → IdsApart rs → FiguresOf rs rows (figures rs rows)
 unfolding figures
-figures-right rs rows apart =
+figures-right rs rows climbing apart =
     record {
       chain =
           heaviest-heaviest (taskCount rs) (related rs rows) (sizeAt rs) (idAt rs) (priorityAt rs) (topOf rs)
-          (related-rises rs rows) (λ i l. size-in-level (sizeAt rs) (priorityAt rs) (taskCount rs) i l .1) apart;
+          (related-rises rs climbing rows) (λ i l. size-in-level (sizeAt rs) (priorityAt rs) (taskCount rs) i l .1) apart;
       path = largest-path (taskCount rs) (related rs rows) (sizeAt rs) (pathOver rs rows every) (largest every);
       transactions =
           record { each = λ t. pathOver rs rows (inTransaction rs t); bound = λ t l. largest (inTransaction rs t); total = refl };
@@ -55,4 +56,4 @@ figures-right rs rows apart =
     largest : (test : ℕ → Bool) → Largest (λ c. Path (taskCount rs) (related rs rows) c × All test c) (weight (sizeAt rs)) (pathOver rs rows test)
     largest test =
         pathSum-largest (taskCount rs) (related rs rows) (sizeAt rs) test (priorityAt rs) (topOf rs)
-        (related-rises rs rows) (λ i l. size-in-level (sizeAt rs) (priorityAt rs) (taskCount rs) i l .1)
+        (related-rises rs climbing rows) (λ i l. size-in-level (sizeAt rs) (priorityAt rs) (taskCount rs) i l .1)

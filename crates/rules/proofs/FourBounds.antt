@@ -19,9 +19,10 @@ use Rattle.rules.proofs.Numbers.{either}
 use Rattle.rules.proofs.Table.Ranges.{le2-small}
 use Rattle.rules.proofs.Table.Shape.{Shape, ofKind-bytes}
 use Rattle.rules.proofs.Table.Listed.{table-of}
+use Rattle.rules.proofs.Related.{Climbing}
 use Rattle.rules.proofs.FourBounds.Order.{chain≤path, path≤levels, chain≤transactions}
 use Rattle.rules.proofs.FourBounds.Total.{total-within, transactions≤total, levels≤total}
-use Rattle.rules.proofs.FourBounds.Accepted.{accepted-listed}
+use Rattle.rules.proofs.FourBounds.Accepted.{accepted-listed, accepted-climbing}
 pub mod Order
 pub mod Accepted
 pub mod Total
@@ -37,14 +38,14 @@ Ordered answer =
 refused-ordered : (v : Verdict) → Ordered (boundRefusal v)
 refused-ordered v = (omega arith, omega arith, omega arith)
 
--- the figures of a table are ordered, where every task's transaction is listed
-pub figures-ordered : (rs : List (List ℕ)) (rows : List ℕ) (f : Figures)
+-- the figures of a table are ordered, where tasks yield only to higher priorities and every task's transaction is listed
+pub figures-ordered : (rs : List (List ℕ)) (rows : List ℕ) (f : Figures) → Climbing rs
     → ((i : ℕ) → i < taskCount rs → listed (transactions rs) (taskAt rs i .transaction) ≡ true)
     → FiguresOf rs rows f → Ordered (boundsFound rs f)
-figures-ordered rs rows f known right =
+figures-ordered rs rows f climbing known right =
     let (c, path, heavy) = right .path .reached in (
       chain≤path (taskCount rs) (related rs rows) (sizeAt rs) (f .path) (f .chain) (right .path) (right .chain .chain),
-      omega (arith, path≤levels rs rows c path, heavy, right .levels),
+      omega (arith, path≤levels rs climbing rows c path, heavy, right .levels),
       chain≤transactions rs rows (f .transactions) (f .chain) known (right .transactions) (right .chain .chain),
     )
 
@@ -61,7 +62,7 @@ bounds-ordered image rows ids answer later call =
 
     worked : accepted (tableVerdict image) ≡ true → BoundsWorkedOut (records image) rows ids answer later → Ordered answer
     worked table out =
-        rw (out .found .0) (figures-ordered (records image) rows (out .figures) (accepted-listed image table) (out .right))
+        rw (out .found .0) (figures-ordered (records image) rows (out .figures) (accepted-climbing image table) (accepted-listed image table) (out .right))
 
 -- 64 tasks of at most 65,535 bytes weigh at most 4,194,240
 abbrev pub WithinLimits : Bounds → Type 0
@@ -72,16 +73,19 @@ WithinLimits answer =
 pub bounds-within : (image rows : List ℕ) (f : Figures) → Bytes image → accepted (tableVerdict image) ≡ true
     → FiguresOf (records image) rows f → WithinLimits (boundsFound (records image) f)
 bounds-within image rows f bytes table right =
-    let ordered = figures-ordered rs rows f (accepted-listed image table) right in
+    let ordered = figures-ordered rs rows f climbing (accepted-listed image table) right in
     let most : f .levels ≤ 4194240 = omega (arith, total, right .levels, levels≤total (sizeAt rs) (priorityAt rs) (taskCount rs)) in (
       omega (arith, most, ordered),
       omega (arith, most, ordered),
-      omega (arith, total, transactions≤total rs rows (f .transactions) (shape .transactions-rise) (right .transactions)),
+      omega (arith, total, transactions≤total rs climbing rows (f .transactions) (shape .transactions-rise) (right .transactions)),
       most,
     )
   where
     rs : List (List ℕ)
     rs = records image
+
+    climbing : Climbing rs
+    climbing = accepted-climbing image table
 
     shape : Shape rs
     shape = table-of image bytes table .0

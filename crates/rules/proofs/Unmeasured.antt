@@ -6,7 +6,7 @@ use mathlib.Core.Path.{_≡_, refl, ap, sym, _∙_}
 use native.Mathlib.Nat.{mod-lt}
 use native.Mathlib.Omega.{arith}
 use borrow.Author.Tests.{lt-ltb, eq-eqb, eqb-true, eqb-false, ne-eqb}
-use lib.Dec.{ltb, eqb}
+use lib.Dec.{eqb}
 use lib.ListN.{getD}
 use Rattle.rules.specs.declared.Reason.{Reason}
 use Rattle.rules.specs.declared.Reason.the-variants.{Jitter, Priority, Pair}
@@ -15,7 +15,7 @@ use Rattle.rules.specs.Numbers.{Bytes, le4}
 use Rattle.rules.specs.Blocks.{records}
 use Rattle.rules.specs.Records.{unmeasured, jitterOf, tasks, taskCount, taskAt, periodIn, periodAt}
 use Rattle.rules.specs.Reasons.{told}
-use Rattle.rules.specs.Preempt.{distance, jitterReaches, reason, mayPreempt, barred, reasonAt, decided, cell, mapOf}
+use Rattle.rules.specs.Preempt.{distance, jitterReaches, yields, reason, mayPreempt, barred, reasonAt, decided, cell, mapOf}
 use Rattle.rules.specs.Patches.{same}
 use Rattle.rules.specs.Refusals.{accepted, tableVerdict}
 use Rattle.rules.proofs.Numbers.{either, never}
@@ -81,7 +81,7 @@ module _ (rs : List (List ℕ)) (named : Listed rs) (i j : ℕ) (h : i < taskCou
 
     -- so priority and pairs alone decide
     pub unmeasured-reason : reasonAt rs i j
-        ≡ cond (not (ltb (taskAt rs i .priority) (taskAt rs j .priority))) Priority
+        ≡ cond (not (yields (taskAt rs i) (taskAt rs j))) Priority
         (cond (barred rs (taskAt rs i .id) (taskAt rs j .id)) Pair
         Jitter)
     unfolding reasonAt reason
@@ -89,7 +89,7 @@ module _ (rs : List (List ℕ)) (named : Listed rs) (i j : ℕ) (h : i < taskCou
 
     -- and the task may be preempted where both allow it
     pub unmeasured-decided : decided rs i j
-        ≡ (ltb (taskAt rs i .priority) (taskAt rs j .priority) && not (barred rs (taskAt rs i .id) (taskAt rs j .id)))
+        ≡ (yields (taskAt rs i) (taskAt rs j) && not (barred rs (taskAt rs i .id) (taskAt rs j .id)))
     unfolding decided
     unmeasured-decided =
         may-preempt-was (periodAt rs i) (barred rs (taskAt rs i .id) (taskAt rs j .id)) (taskAt rs i) (taskAt rs j)
@@ -103,7 +103,7 @@ module _ (rs : List (List ℕ)) (named : Listed rs) (i j : ℕ) (h : i < taskCou
   unfolding decided mayPreempt
   unmeasured-covers x may =
       let bar = barred rs (taskAt rs i .id) (taskAt rs j .id) in
-      let urgent = ltb (taskAt rs i .priority) (taskAt rs j .priority) in
+      let urgent = yields (taskAt rs i) (taskAt rs j) in
       either (eqb (taskAt rs i .transaction) (taskAt rs j .transaction))
       (λ t.
       let all : (urgent && (not bar && timely (periodAt rs i) (taskAt rs i) (withJitter x (taskAt rs j)))) ≡ true = sym (may-preempt-was (periodAt rs i) bar (taskAt rs i) (withJitter x (taskAt rs j))) ∙ may in
@@ -119,7 +119,7 @@ pub unmeasured-cell : (image : List ℕ) → Bytes image → accepted (tableVerd
     → i < taskCount (records image) → j < taskCount (records image)
     → taskAt (records image) i .transaction ≡ taskAt (records image) j .transaction → Unmeasured (records image) j
     → cell (mapOf (records image)) i j
-    ≡ (ltb (taskAt (records image) i .priority) (taskAt (records image) j .priority)
+    ≡ (yields (taskAt (records image) i) (taskAt (records image) j)
     && not (barred (records image) (taskAt (records image) i .id) (taskAt (records image) j .id)))
 unmeasured-cell image bytes right i j h l within missing =
     let (shape, named) = table-of image bytes right in

@@ -31,11 +31,15 @@ timing t i j =
     (cond (responseReaches t i j) Response
     Timing))
 
+-- the first condition of (8): task i yields to task j, which has the higher priority
+abbrev pub yields : Task → Task → Bool
+yields i j = ltb (i .priority) (j .priority)
+
 -- (8): the first condition that fails, of priority, pair and timing, or else why task i may be preempted by task j; t is
 -- the period of i's transaction and barred says that a pair forbids it
 unfoldable pub reason : ℕ → Bool → Task → Task → Reason
 reason t barred i j =
-    cond (not (ltb (i .priority) (j .priority))) Priority
+    cond (not (yields i j)) Priority
     (cond barred Pair
     (timing t i j))
 

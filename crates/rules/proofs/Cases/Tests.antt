@@ -12,6 +12,7 @@ use Rattle.rules.specs.Patches.{same, outcome, touchedCount, patchedMap}
 use Rattle.rules.specs.Refusals.{recordsVerdict, referenceRefusal}
 use Rattle.rules.proofs.Refusals.{accepted-both}
 use Rattle.rules.proofs.Enumerate.{figures, figures-right}
+use Rattle.rules.proofs.FourBounds.Accepted.{records-climbing}
 use Rattle.rules.proofs.Enumerate.Apart.{records-apart}
 use Rattle.rules.proofs.Cases.Entries.{Shown, Shows, Case, valid, applies, Holds, AllHold}
 use Rattle.rules.proofs.Cases.Entries.Case.{preempted, shown, patched}
@@ -49,13 +50,14 @@ shows rs f s =
 shows-right : (rs : List (List ℕ)) (rows : List ℕ) (s : Shown) → valid rs ≡ true → T (shows rs (figures rs rows) s) → Shows rs rows s
 shows-right rs rows s table p =
     let f : Figures = figures rs rows in
+    let sound = accepted-both (recordsVerdict Table rs) (referenceRefusal rs) table .0 in
     let (weight, p1) = both (eqb (chainBound rs f) (s .weight)) (same (chainIds rs f) (s .ids) && bounds f) p in
     let (ids, p2) = both (same (chainIds rs f) (s .ids)) (bounds f) p1 in
     let (path, p3) = both (eqb (f .path) (s .path)) (eqb (f .transactions) (s .transactions) && eqb (f .levels) (s .levels)) p2 in
     let (transactions, levels) = both (eqb (f .transactions) (s .transactions)) (eqb (f .levels) (s .levels)) p3 in
     record {
       found = f;
-      right = figures-right rs rows (records-apart rs (accepted-both (recordsVerdict Table rs) (referenceRefusal rs) table .0));
+      right = figures-right rs rows (records-climbing rs sound) (records-apart rs sound);
       weight = eqb→eq (chainBound rs f) (s .weight) weight;
       ids = same-equal (chainIds rs f) (s .ids) ids;
       path = eqb→eq (f .path) (s .path) path;

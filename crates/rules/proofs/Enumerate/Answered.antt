@@ -14,6 +14,7 @@ use Rattle.rules.specs.Calls.{over, boundVerdict, boundRefusal, boundsFo
 use Rattle.rules.proofs.Refusals.{accepted-both}
 use Rattle.rules.proofs.Numbers.{either, never}
 use Rattle.rules.proofs.Enumerate.{figures, figures-right}
+use Rattle.rules.proofs.FourBounds.Accepted.{accepted-climbing}
 use Rattle.rules.proofs.Enumerate.Apart.{accepted-apart}
 
 -- some answer and some later ids meet the definition
@@ -36,8 +37,8 @@ bound-call-answered image rows ids = either (accepted v) found refused
 
     right : accepted v ≡ true → FiguresOf rs rows f
     right t =
-        figures-right rs rows
-        (accepted-apart image (accepted-both (tableVerdict image) (shortRefusal (ltb (length rows) 64 || ltb (length ids) 64)) t .0))
+        let table = accepted-both (tableVerdict image) (shortRefusal (ltb (length rows) 64 || ltb (length ids) 64)) t .0 in
+        figures-right rs rows (accepted-climbing image table) (accepted-apart image table)
 
     refused : accepted v ≡ false → Answered image rows ids
     refused t = (boundRefusal v, ids, record { refused = λ u. (refl, refl); worked = λ u. never (accepted v) u t })

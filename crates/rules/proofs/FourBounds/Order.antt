@@ -1,18 +1,18 @@
 -- How the bounds of one table and one map are ordered: chain <= path <= levels, and chain <= transactions.
 use Prim.Native.Nat.{ℕ, suc, _+_, _≤_, _<_}
 use mathlib.Core.List.{List, [], _∷_}
-use mathlib.Core.Bool.{Bool, true, cond, _&&_}
+use mathlib.Core.Bool.{Bool, true, cond}
 use mathlib.Core.Path.{_≡_, refl, sym}
 use native.Mathlib.Omega.{arith}
 use borrow.Author.Tests.{ltb-true, eqb-true, eq-eqb}
 use lib.ListN.{length, getD}
-use lib.Dec.{T, ltb, eqb}
+use lib.Dec.{T, eqb}
 use Rattle.rules.specs.Numbers.{sumTo, largestTo}
 use Rattle.rules.specs.Records.{taskCount, taskAt, transactions, numberOf, placeOf, listed}
-use Rattle.rules.specs.Preempt.{cell}
 use Rattle.rules.specs.Chains.{weight, Under, Chain, Path, All, Largest, related, sizeAt, priorityAt, inTransaction, TransactionBound, levelBound}
-use Rattle.rules.proofs.Tests.{T-true, true-T, both}
+use Rattle.rules.proofs.Tests.{true-T}
 use Rattle.rules.proofs.Numbers.{either, largestTo-most, lowest-passes, sumTo-longer, sumTo-least, sumTo-more}
+use Rattle.rules.proofs.Related.{Climbing, related-rises}
 
 -- every chain is a path
 pub chain-path : (n : ℕ) (R : ℕ → ℕ → Bool) (c : List ℕ) → Chain n R c → Path n R c
@@ -68,18 +68,10 @@ module _ (n : ℕ) (R : ℕ → ℕ → Bool) (S P : ℕ → ℕ) (rises : (i j 
   path-climbs [] h = omega arith
   path-climbs (i ∷ c) h = omega (arith, climb i c h)
 
--- what `related` asks: the first has lower priority
-pub related-rises : (rs : List (List ℕ)) (rows : List ℕ) (i j : ℕ) → T (related rs rows i j) → priorityAt rs i < priorityAt rs j
-unfolding related
-related-rises rs rows i j t =
-    let lower : Bool = ltb (priorityAt rs i) (priorityAt rs j) in
-    let places : Bool = ltb i (taskCount rs) && ltb j (taskCount rs) in
-    ltb-true (priorityAt rs i) (priorityAt rs j) (T-true lower (both lower (cell rows i j) (both places (lower && cell rows i j) t .1) .0))
-
--- no path weighs more than the levels
-pub path≤levels : (rs : List (List ℕ)) (rows c : List ℕ) → Path (taskCount rs) (related rs rows) c → weight (sizeAt rs) c ≤ levelBound rs
-path≤levels rs rows =
-    path-climbs (taskCount rs) (related rs rows) (sizeAt rs) (priorityAt rs) (λ i j h k. related-rises rs rows i j)
+-- no path weighs more than the levels, where tasks yield only to higher priorities
+pub path≤levels : (rs : List (List ℕ)) → Climbing rs → (rows c : List ℕ) → Path (taskCount rs) (related rs rows) c → weight (sizeAt rs) c ≤ levelBound rs
+path≤levels rs climbing rows =
+    path-climbs (taskCount rs) (related rs rows) (sizeAt rs) (priorityAt rs) (λ i j h k. related-rises rs climbing rows i j)
 
 -- the tasks of a list that pass a test, in its order
 pub own : (ℕ → Bool) → List ℕ → List ℕ

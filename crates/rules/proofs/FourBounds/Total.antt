@@ -13,7 +13,8 @@ use Rattle.rules.specs.Chains.{weight, Path, All, Largest, related, size
 use Rattle.rules.proofs.Tests.{T-true}
 use Rattle.rules.proofs.Numbers.{largestTo-sum, sumTo-least, sumTo-rest, sumTo-light, sumTo-both, sumTo-once}
 use Rattle.rules.proofs.Table.Order.{Rises, one-with}
-use Rattle.rules.proofs.FourBounds.Order.{level, levels, path-climbs, related-rises}
+use Rattle.rules.proofs.Related.{Climbing, related-rises}
+use Rattle.rules.proofs.FourBounds.Order.{level, levels, path-climbs}
 
 -- 64 tasks of at most 65,535 bytes weigh at most 4,194,240
 pub total-within : (S : ℕ → ℕ) (n : ℕ) → n ≤ 64 → ((i : ℕ) → i < n → S i ≤ 65535) → sumTo S n ≤ 4194240
@@ -70,13 +71,13 @@ own-paths≤total n R S P rises test m each one bound =
         omega (arith, weight-only S (test t) c all, path-climbs n R (only t) P rises c path, levels≤total (only t) P n)
 
 -- so the bound by transactions is at most what all tasks weigh, where the numbers of the transactions rise
-pub transactions≤total : (rs : List (List ℕ)) (rows : List ℕ) (r : ℕ) → Rises numberOf (transactions rs) → TransactionBound rs rows r
+pub transactions≤total : (rs : List (List ℕ)) → Climbing rs → (rows : List ℕ) (r : ℕ) → Rises numberOf (transactions rs) → TransactionBound rs rows r
     → r ≤ sumTo (sizeAt rs) (taskCount rs)
-transactions≤total rs rows r rise bound =
+transactions≤total rs climbing rows r rise bound =
     omega (
       arith,
       bound .total,
-      own-paths≤total (taskCount rs) (related rs rows) (sizeAt rs) (priorityAt rs) (λ i j h k. related-rises rs rows i j)
+      own-paths≤total (taskCount rs) (related rs rows) (sizeAt rs) (priorityAt rs) (λ i j h k. related-rises rs climbing rows i j)
           (inTransaction rs) (length (transactions rs)) (bound .each)
           (λ i t u h. one-with (transactions rs) rise (taskAt rs i .transaction) t u) (bound .bound),
     )
