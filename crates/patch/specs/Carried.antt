@@ -26,10 +26,10 @@ unfoldable pub cellOf : Decision → Task → ℕ → List ℕ → ℕ → ℕ �
 cellOf d high touched old before j = cond (d .whole) (decidedIn d high j) (cellCarried d high touched old before j)
 
 -- a cell with a touched task is decided, and any other is the lent map's at the two old places
-unfoldable pub cellNew : ℕ → ℕ → (ℕ → Task) → ℕ → List ℕ → List ℕ → ℕ → ℕ → Bool
-cellNew period bars task touched old rows i j =
+unfoldable pub cellNew : ℕ → ℕ → Task → (ℕ → Task) → ℕ → List ℕ → List ℕ → ℕ → ℕ → Bool
+cellNew period bars low upper touched old rows i j =
     cond (bitAt touched i || bitAt touched j)
-    (mayPreempt period (bitAt bars j) (task i) (task j))
+    (mayPreempt period (bitAt bars j) low (upper j))
     (cell rows (getD old i 0) (getD old j 0))
 
 -- the same from the tasks and the forbidden pairs as they were read

@@ -10,7 +10,7 @@ ghost use Rattle.rules.specs.Patches.{outcome};
 ghost use Rattle.rules.specs.Refusals.{accepted, tableVerdict};
 ghost use Rattle.image.specs.Held.{HoldsRecords};
 ghost use Rattle.preempt.specs.Bits.{bitAt, column};
-ghost use Rattle.preempt.specs.Tasks.{timedAt};
+ghost use Rattle.preempt.specs.Tasks.{upperAt};
 ghost use Rattle.patch.specs.Carried.{cellCarried, cellOf, cellNew, carriedBy, MapCarried};
 use crate::touched::count_places;
 use crate::touched::touched_tasks;
@@ -18,8 +18,9 @@ use preempt::barred::read_barred;
 use preempt::bits::is_set;
 use preempt::bits::power;
 use preempt::decide::may_preempt;
+use preempt::map::lower_at;
 use preempt::map::row;
-use preempt::map::timed_at;
+use preempt::map::upper_at;
 use preempt::tasks::Tasks;
 use preempt::tasks::read_tasks;
 use rules::Task;
@@ -113,7 +114,6 @@ fn carried_row(
     priorities: &[u32; 64],
     offsets: &[u32; 64],
     jitters: &[u32; 64],
-    responses: &[u32; 64],
     count: usize,
     decision: Decision,
     touched: u64,
@@ -121,7 +121,7 @@ fn carried_row(
     before: u64,
 ) -> u64
     requires { ⌜ (count ≤ 64) × (64 ≤ length (now old)) ⌝ }
-    ensures { λ r. ⌜ r ≡ rowFrom count (λ j. cellOf decision (timedAt (now (transactions .entry)) (now (priorities .entry)) (now (offsets .entry)) (now (jitters .entry)) (now (responses .entry)) j) touched (now (old .entry)) before j) ⌝ }
+    ensures { λ r. ⌜ r ≡ rowFrom count (λ j. cellOf decision (upperAt (now (transactions .entry)) (now (priorities .entry)) (now (offsets .entry)) (now (jitters .entry)) j) touched (now (old .entry)) before j) ⌝ }
 {
     if decision.whole {
         return row(
@@ -129,7 +129,6 @@ fn carried_row(
             priorities,
             offsets,
             jitters,
-            responses,
             count,
             decision.period,
             decision.bars,
@@ -139,7 +138,7 @@ fn carried_row(
     let mut bits: u64 = 0;
     let mut j: usize = 0;
     while j < count {
-        let high = timed_at(transactions, priorities, offsets, jitters, responses, j);
+        let high = upper_at(transactions, priorities, offsets, jitters, j);
         if is_carried_set(decision, high, touched, old, before, j) {
             bits += power(j);
         }
@@ -148,25 +147,24 @@ fn carried_row(
     bits
 }
 
-// Row i of the new map, for the task at place i with this period and these bars.
+// Row i of the new map, for the low task, which is at place i, with this period and these bars.
 fn new_row(
     transactions: &[u32; 64],
     priorities: &[u32; 64],
     offsets: &[u32; 64],
     jitters: &[u32; 64],
-    responses: &[u32; 64],
     count: usize,
     period: u32,
     bars: u64,
+    low: Task,
     touched: u64,
     old: &[u32],
     rows: &[u64],
     i: usize,
 ) -> u64
     requires { ⌜ (i < 64) × ((count ≤ 64) × (64 ≤ length (now old))) ⌝ }
-    ensures { λ r. ⌜ r ≡ rowFrom count (cellNew period bars (timedAt (now (transactions .entry)) (now (priorities .entry)) (now (offsets .entry)) (now (jitters .entry)) (now (responses .entry))) touched (now (old .entry)) (now (rows .entry)) i) ⌝ }
+    ensures { λ r. ⌜ r ≡ rowFrom count (cellNew period bars low (upperAt (now (transactions .entry)) (now (priorities .entry)) (now (offsets .entry)) (now (jitters .entry))) touched (now (old .entry)) (now (rows .entry)) i) ⌝ }
 {
-    let low = timed_at(transactions, priorities, offsets, jitters, responses, i);
     let decision = Decision {
         period,
         bars,
@@ -178,7 +176,6 @@ fn new_row(
         priorities,
         offsets,
         jitters,
-        responses,
         count,
         decision,
         touched,
@@ -206,15 +203,16 @@ fn carried_rows(
     let mut map = [0u64; 64];
     let mut i: usize = 0;
     while i < tasks.count {
+        let low = lower_at(&transactions, &offsets, &responses, &priorities, i);
         map[i] = new_row(
             &transactions,
             &priorities,
             &offsets,
             &jitters,
-            &responses,
             tasks.count,
             tasks.periods[i],
             barred[i],
+            low,
             touched,
             old,
             rows,

@@ -4,6 +4,7 @@ pub mod Columns
 pub mod Maps
 pub mod Accepted
 pub mod Pairs
+pub mod Filling
 pub mod Reading
 pub mod Calls
 pub mod Paper

@@ -1,4 +1,4 @@
--- Laws of maps: a map is a column of rows, one more of its cells may be set, and a cell asks neither id nor size.
+-- Laws of maps: a map is a column of rows, one more of its cells may be set, and a decision asks some fields of each task.
 use Prim.Native.Nat.{ℕ, _^_, _≤_, _<_}
 use mathlib.Core.List.{List}
 use mathlib.Core.Bool.{Bool, true, false, cond, _&&_, _||_, or-false}
@@ -16,7 +16,7 @@ use Rattle.rules.proofs.Bits.{bit-of-power, bit-or, bits-at, bits-small, bits-n
 use Rattle.rules.proofs.Maps.{rowTest, map-row, row-ext, map-ext}
 use Rattle.preempt.specs.declared.tasks.Tasks.{Tasks}
 use Rattle.preempt.specs.Bits.{bitAt, column, marked, withPair}
-use Rattle.preempt.specs.Tasks.{timedAt, decidedBy}
+use Rattle.preempt.specs.Tasks.{lowerAt, upperAt, decidedBy}
 use Rattle.preempt.proofs.Columns.{column-zero, column-set}
 
 -- a map is a column of rows
@@ -82,12 +82,15 @@ pub map-with-pair : (n : ℕ) (test : ℕ → ℕ → Bool) (sort a b : ℕ) →
     → withPair (mapFrom n test) sort a b ≡ mapFrom n (λ i j. test i j || ((eqb i a && eqb j b) || (eqb sort 1 && (eqb j a && eqb i b))))
 map-with-pair n test sort a b most h l = one-or-both n test (eqb sort 1) a b most h l
 
--- the task at a place with the fields that a decision asks for, as they were read
-abbrev pub timedIn : Tasks → ℕ → Task
-timedIn t = timedAt (t .transactions) (t .priorities) (t .offsets) (t .jitters) (t .responses)
+-- the task at a place with what a decision asks of either side, as it was read
+abbrev pub lowerIn : Tasks → ℕ → Task
+lowerIn t = lowerAt (t .transactions) (t .offsets) (t .responses) (t .priorities)
 
--- a decision asks neither id nor size, so these fields are enough for it
-pub decided-timed : (t : Tasks) (rows : List ℕ) (i j : ℕ)
-    → mayPreempt (getD (t .periods) i 0) (bitAt (getD rows i 0) j) (timedIn t i) (timedIn t j) ≡ decidedBy t rows i j
+abbrev pub upperIn : Tasks → ℕ → Task
+upperIn t = upperAt (t .transactions) (t .priorities) (t .offsets) (t .jitters)
+
+-- a decision asks nothing else, so these fields are enough for it
+pub decided-sides : (t : Tasks) (rows : List ℕ) (i j : ℕ)
+    → mayPreempt (getD (t .periods) i 0) (bitAt (getD rows i 0) j) (lowerIn t i) (upperIn t j) ≡ decidedBy t rows i j
 unfolding mayPreempt reason decidedBy
-decided-timed t rows i j = refl
+decided-sides t rows i j = refl

@@ -13,31 +13,17 @@ use Rattle.preempt.specs.declared.tasks.Tasks.{Tasks}
 use Rattle.preempt.specs.Bits.{column}
 use Rattle.preempt.specs.Tasks.{TasksRead, barredMap, taskIn, decidedBy}
 use Rattle.preempt.proofs.Columns.{column-length, column-at}
+use Rattle.preempt.proofs.Filling.{tasksTo}
 
 -- a field of the task at a place that holds one
 pub field-at : (rs : List (List ℕ)) (l : List ℕ) (f : ℕ → ℕ) → Shape rs → l ≡ column (taskCount rs) f → (i : ℕ) → i < taskCount rs → getD l i 0 ≡ f i
 field-at rs l f shape e i h = ap (λ (c : List ℕ). getD c i 0) e ∙ column-at (taskCount rs) f i (shape .few-tasks) h
 
--- the tasks of a table
-abbrev pub tasksOf : List (List ℕ) → Tasks
-tasksOf rs =
-    record {
-      count = taskCount rs;
-      ids = column (taskCount rs) (λ i. taskAt rs i .id);
-      transactions = column (taskCount rs) (λ i. taskAt rs i .transaction);
-      priorities = column (taskCount rs) (λ i. taskAt rs i .priority);
-      offsets = column (taskCount rs) (λ i. taskAt rs i .offset);
-      jitters = column (taskCount rs) (λ i. taskAt rs i .jitter);
-      responses = column (taskCount rs) (λ i. taskAt rs i .response);
-      sizes = column (taskCount rs) (λ i. taskAt rs i .size);
-      periods = column (taskCount rs) (periodAt rs);
-    }
-
--- are all that can be read of it
-pub tasks-read : (rs : List (List ℕ)) (t : Tasks) → TasksRead rs t → t ≡ tasksOf rs
+-- all that can be read of a table's tasks
+pub tasks-read : (rs : List (List ℕ)) (t : Tasks) → TasksRead rs t → t ≡ tasksTo rs (taskCount rs) (taskCount rs)
 tasks-read rs t read =
     let fields : Tasks = record { count = t .count; ids = t .ids; transactions = t .transactions; priorities = t .priorities; offsets = t .offsets; jitters = t .jitters; responses = t .responses; sizes = t .sizes; periods = t .periods } in
-    let same : fields ≡ tasksOf rs = rw (read .count, read .ids, read .transactions, read .priorities, read .offsets, read .jitters, read .responses, read .sizes, read .periods) in
+    let same : fields ≡ tasksTo rs (taskCount rs) (taskCount rs) = rw (read .count, read .ids, read .transactions, read .priorities, read .offsets, read .jitters, read .responses, read .sizes, read .periods) in
     same
 
 -- so two readings of one table are equal

@@ -8,7 +8,7 @@ ghost use Rattle.rules.specs.Preempt.{mayPreempt, rowFrom, mapFrom, mapOf};
 ghost use Rattle.rules.specs.Refusals.{accepted, tableVerdict};
 ghost use Rattle.rules.specs.Calls.{over, mapVerdict, mapAfter};
 ghost use Rattle.preempt.specs.Bits.{bitAt};
-ghost use Rattle.preempt.specs.Tasks.{timedAt, decidedOn};
+ghost use Rattle.preempt.specs.Tasks.{lowerAt, upperAt, decidedOn};
 use crate::barred::read_barred;
 use crate::bits::is_set;
 use crate::bits::power;
@@ -18,25 +18,46 @@ use rules::Task;
 use rules::Verdict;
 use table::table_verdict;
 
-// The task at a place, with what a decision asks of it.
-pub fn timed_at(
+// The task at a place, with what a decision asks of the one that is preempted.
+pub fn lower_at(
     transactions: &[u32; 64],
-    priorities: &[u32; 64],
     offsets: &[u32; 64],
-    jitters: &[u32; 64],
     responses: &[u32; 64],
+    priorities: &[u32; 64],
     i: usize,
 ) -> Task
     requires { ⌜ i < 64 ⌝ }
-    ensures { λ r. ⌜ r ≡ timedAt (now (transactions .entry)) (now (priorities .entry)) (now (offsets .entry)) (now (jitters .entry)) (now (responses .entry)) i ⌝ }
+    ensures { λ r. ⌜ r ≡ lowerAt (now (transactions .entry)) (now (offsets .entry)) (now (responses .entry)) (now (priorities .entry)) i ⌝ }
 {
     Task {
         id: 0,
         transaction: transactions[i],
         priority: priorities[i],
         offset: offsets[i],
-        jitter: jitters[i],
+        jitter: 0,
         response: responses[i],
+        size: 0,
+    }
+}
+
+// The task at a place, with what a decision asks of the one that preempts.
+pub fn upper_at(
+    transactions: &[u32; 64],
+    priorities: &[u32; 64],
+    offsets: &[u32; 64],
+    jitters: &[u32; 64],
+    j: usize,
+) -> Task
+    requires { ⌜ j < 64 ⌝ }
+    ensures { λ r. ⌜ r ≡ upperAt (now (transactions .entry)) (now (priorities .entry)) (now (offsets .entry)) (now (jitters .entry)) j ⌝ }
+{
+    Task {
+        id: 0,
+        transaction: transactions[j],
+        priority: priorities[j],
+        offset: offsets[j],
+        jitter: jitters[j],
+        response: 0,
         size: 0,
     }
 }
@@ -48,19 +69,18 @@ pub fn row(
     priorities: &[u32; 64],
     offsets: &[u32; 64],
     jitters: &[u32; 64],
-    responses: &[u32; 64],
     count: usize,
     period: u32,
     bars: u64,
     low: Task,
 ) -> u64
     requires { ⌜ count ≤ 64 ⌝ }
-    ensures { λ r. ⌜ r ≡ rowFrom count (λ j. mayPreempt period (bitAt bars j) low (timedAt (now (transactions .entry)) (now (priorities .entry)) (now (offsets .entry)) (now (jitters .entry)) (now (responses .entry)) j)) ⌝ }
+    ensures { λ r. ⌜ r ≡ rowFrom count (λ j. mayPreempt period (bitAt bars j) low (upperAt (now (transactions .entry)) (now (priorities .entry)) (now (offsets .entry)) (now (jitters .entry)) j)) ⌝ }
 {
     let mut row: u64 = 0;
     let mut j: usize = 0;
     while j < count {
-        let high = timed_at(transactions, priorities, offsets, jitters, responses, j);
+        let high = upper_at(transactions, priorities, offsets, jitters, j);
         if may_preempt(period, is_set(bars, j), low, high) {
             row += power(j);
         }
@@ -81,18 +101,17 @@ pub fn map_of<'a>(
     count: usize,
 ) -> [u64; 64]
     requires { ⌜ count ≤ 64 ⌝ }
-    ensures { λ r. ⌜ r ≡ mapFrom count (decidedOn (now (periods .entry)) (now (barred .entry)) (timedAt (now (transactions .entry)) (now (priorities .entry)) (now (offsets .entry)) (now (jitters .entry)) (now (responses .entry)))) ⌝ }
+    ensures { λ r. ⌜ r ≡ mapFrom count (decidedOn (now (periods .entry)) (now (barred .entry)) (lowerAt (now (transactions .entry)) (now (offsets .entry)) (now (responses .entry)) (now (priorities .entry))) (upperAt (now (transactions .entry)) (now (priorities .entry)) (now (offsets .entry)) (now (jitters .entry)))) ⌝ }
 {
     let mut rows = [0u64; 64];
     let mut i: usize = 0;
     while i < count {
-        let low = timed_at(transactions, priorities, offsets, jitters, responses, i);
+        let low = lower_at(transactions, offsets, responses, priorities, i);
         rows[i] = row(
             transactions,
             priorities,
             offsets,
             jitters,
-            responses,
             count,
             periods[i],
             barred[i],

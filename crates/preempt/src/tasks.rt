@@ -8,7 +8,7 @@ ghost use Rattle.rules.specs.Blocks.{records};
 ghost use Rattle.rules.specs.Records.{jitterOf, taskOf, transactions, tasks, taskCount, periodIn, periodAt};
 ghost use Rattle.rules.specs.Refusals.{accepted, tableVerdict};
 ghost use Rattle.preempt.specs.Bits.{column};
-ghost use Rattle.preempt.specs.Tasks.{TasksRead};
+ghost use Rattle.preempt.specs.Tasks.{noTasks, TasksRead};
 use image::bytes::four_bytes;
 use image::bytes::two_bytes;
 use image::records::record_at;
@@ -110,6 +110,24 @@ fn read_periods(image: &[u8], first: usize, count: usize) -> [u32; 64]
     periods
 }
 
+// No task read yet of so many, whose transactions have these periods.
+fn no_tasks(count: usize, periods: [u32; 64]) -> Tasks
+    ensures { λ r. ⌜ r ≡ noTasks count periods ⌝ }
+{
+    let none = [0u32; 64];
+    Tasks {
+        count,
+        ids: none,
+        transactions: none,
+        priorities: none,
+        offsets: none,
+        jitters: none,
+        responses: none,
+        sizes: none,
+        periods,
+    }
+}
+
 // The tasks of an accepted table.
 pub fn read_tasks(image: &[u8]) -> Tasks
     requires { ⌜ accepted (tableVerdict (now image)) ≡ true ⌝ }
@@ -117,35 +135,18 @@ pub fn read_tasks(image: &[u8]) -> Tasks
 {
     let first = count_kind(image, 1);
     let count = count_kind(image, 2);
-    let periods = read_periods(image, first, count);
-    let mut ids = [0u32; 64];
-    let mut transactions = [0u32; 64];
-    let mut priorities = [0u32; 64];
-    let mut offsets = [0u32; 64];
-    let mut jitters = [0u32; 64];
-    let mut responses = [0u32; 64];
-    let mut sizes = [0u32; 64];
+    let mut tasks = no_tasks(count, read_periods(image, first, count));
     let mut i: usize = 0;
     while i < count {
-        let task = task_at(image, first, i, periods[i]);
-        ids[i] = task.id;
-        transactions[i] = task.transaction;
-        priorities[i] = task.priority;
-        offsets[i] = task.offset;
-        jitters[i] = task.jitter;
-        responses[i] = task.response;
-        sizes[i] = task.size;
+        let task = task_at(image, first, i, tasks.periods[i]);
+        tasks.ids[i] = task.id;
+        tasks.transactions[i] = task.transaction;
+        tasks.priorities[i] = task.priority;
+        tasks.offsets[i] = task.offset;
+        tasks.jitters[i] = task.jitter;
+        tasks.responses[i] = task.response;
+        tasks.sizes[i] = task.size;
         i += 1;
     }
-    Tasks {
-        count,
-        ids,
-        transactions,
-        priorities,
-        offsets,
-        jitters,
-        responses,
-        sizes,
-        periods,
-    }
+    tasks
 }

@@ -11,23 +11,23 @@ use borrow.Author.Needs.{needs}
 use lib.Dec.{ltb}
 use Rattle.rules.proofs.Numbers.{sumTo-zero}
 use Rattle.rules.proofs.Bits.{bitsTo, bits-more, bits-same, bits-room, bits-end}
-use Rattle.preempt.specs.Tasks.{timedAt}
+use Rattle.preempt.specs.Tasks.{upperAt}
 use Rattle.patch.specs.declared.carried.Decision.{Decision}
 use Rattle.patch.specs.Carried.{cellCarried, cellOf}
 use Rattle.patch.proofs.carried.carried_row.Statement.{statement}
 use Rattle.patch.proofs.carried.carried_row.Tie as tie
 
 -- whether cell j is set in the row of this decision
-abbrev is-cell : List ℕ → List ℕ → List ℕ → List ℕ → List ℕ → ℕ → Decision → ℕ → List ℕ → ℕ → ℕ → Bool
-is-cell transactions priorities offsets jitters responses count decision touched old before j =
-    ltb j count && cellCarried decision (timedAt transactions priorities offsets jitters responses j) touched old before j
+abbrev is-cell : List ℕ → List ℕ → List ℕ → List ℕ → ℕ → Decision → ℕ → List ℕ → ℕ → ℕ → Bool
+is-cell transactions priorities offsets jitters count decision touched old before j =
+    ltb j count && cellCarried decision (upperAt transactions priorities offsets jitters j) touched old before j
 
 abbrev Inv-loop : tie.InvT-loop
-Inv-loop transactions priorities offsets jitters responses count decision touched old before bits₀ j₀ bits j =
-    (j ≤ count) × (bits ≡ bitsTo (is-cell transactions priorities offsets jitters responses count decision touched old before) j)
+Inv-loop transactions priorities offsets jitters count decision touched old before bits₀ j₀ bits j =
+    (j ≤ count) × (bits ≡ bitsTo (is-cell transactions priorities offsets jitters count decision touched old before) j)
 
 abbrev μ-loop : tie.MeasureT-loop
-μ-loop transactions priorities offsets jitters responses count decision touched old before bits₀ j₀ bits j = count - j
+μ-loop transactions priorities offsets jitters count decision touched old before bits₀ j₀ bits j = count - j
 
 row-requires : tie.Need-row-requires Inv-loop μ-loop
 row-requires c κs = search needs
@@ -39,8 +39,8 @@ returns c = rw (c .before .if1 .taken) (c .row .ensures)
 loop-holds : tie.Need-loop-holds Inv-loop μ-loop
 loop-holds c = (omega arith, sym (sumTo-zero _))
 
-timed-at-requires : tie.Need-timed-at-requires Inv-loop μ-loop
-timed-at-requires c κs = search needs
+upper-at-requires : tie.Need-upper-at-requires Inv-loop μ-loop
+upper-at-requires c κs = search needs
 
 is-carried-set-requires : tie.Need-is-carried-set-requires Inv-loop μ-loop
 is-carried-set-requires c κs = search needs
@@ -52,7 +52,7 @@ add-bits : tie.Need-add-bits Inv-loop μ-loop
 add-bits c =
     let a = c .before .before .before .before .before .before .before .before .args in
     let s = c .before .before .before .before .before .loop in
-    omega (arith, c .power .ensures, s .inv .1, bits-room (is-cell (a .transactions .now) (a .priorities .now) (a .offsets .now) (a .jitters .now) (a .responses .now) (a .count) (a .decision) (a .touched) (a .old .now) (a .before)) (s .j) (omega arith))
+    omega (arith, c .power .ensures, s .inv .1, bits-room (is-cell (a .transactions .now) (a .priorities .now) (a .offsets .now) (a .jitters .now) (a .count) (a .decision) (a .touched) (a .old .now) (a .before)) (s .j) (omega arith))
 
 add-j : tie.Need-add-j Inv-loop μ-loop
 add-j c = search needs
@@ -64,9 +64,9 @@ loop-again : tie.Need-loop-again Inv-loop μ-loop
 loop-again c =
     let a = c .before .before .before .before .before .before .before .args in
     let s = c .before .before .before .before .loop in
-    let test = is-cell (a .transactions .now) (a .priorities .now) (a .offsets .now) (a .jitters .now) (a .responses .now) (a .count) (a .decision) (a .touched) (a .old .now) (a .before) in
+    let test = is-cell (a .transactions .now) (a .priorities .now) (a .offsets .now) (a .jitters .now) (a .count) (a .decision) (a .touched) (a .old .now) (a .before) in
     let below = lt-ltb (s .j) (a .count) (c .before .before .before .loop-test .taken) in
-    let decided : test (s .j) ≡ c .before .is-carried-set .result = rw (below, ← c .before .before .timed-at .ensures) (sym (c .before .is-carried-set .ensures)) in
+    let decided : test (s .j) ≡ c .before .is-carried-set .result = rw (below, ← c .before .before .upper-at .ensures) (sym (c .before .is-carried-set .ensures)) in
     ⊎-elim
     (λ w.
     let set : test (s .j) ≡ true = decided ∙ w .0 .taken in
@@ -80,7 +80,7 @@ returns-2 : tie.Need-returns-2 Inv-loop μ-loop
 unfolding cellOf cellCarried
 returns-2 c =
     let a = c .before .before .before .before .args in
-    let test = is-cell (a .transactions .now) (a .priorities .now) (a .offsets .now) (a .jitters .now) (a .responses .now) (a .count) (a .decision) (a .touched) (a .old .now) (a .before) in
+    let test = is-cell (a .transactions .now) (a .priorities .now) (a .offsets .now) (a .jitters .now) (a .count) (a .decision) (a .touched) (a .old .now) (a .before) in
     let end : c .before .loop .j ≡ a .count = omega arith in
     rw (c .before .before .if1 .left)
     (c .before .loop .inv .1
@@ -96,7 +96,7 @@ carried-row-spec =
     row-requires
     returns
     loop-holds
-    timed-at-requires
+    upper-at-requires
     is-carried-set-requires
     power-requires
     add-bits

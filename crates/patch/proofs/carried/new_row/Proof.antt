@@ -9,14 +9,11 @@ use Rattle.rules.specs.declared.Task.{Task}
 use Rattle.rules.specs.Preempt.{rowFrom}
 use Rattle.rules.proofs.Maps.{row-ext}
 use Rattle.preempt.specs.Bits.{bitAt}
-use Rattle.preempt.specs.Tasks.{timedAt}
+use Rattle.preempt.specs.Tasks.{upperAt}
 use Rattle.patch.specs.declared.carried.Decision.{Decision}
 use Rattle.patch.specs.Carried.{cellCarried, cellOf, cellNew}
 use Rattle.patch.proofs.carried.new_row.Statement.{statement}
 use Rattle.patch.proofs.carried.new_row.Tie as tie
-
-timed-at-requires : tie.Need-timed-at-requires
-timed-at-requires c κs = search needs
 
 is-set-requires : tie.Need-is-set-requires
 is-set-requires c κs = search needs
@@ -43,32 +40,32 @@ abbrev shared : ℕ → ℕ → Task → Bool → Decision
 shared period bars low whole = record { period = period; bars = bars; low = low; whole = whole }
 
 -- a cell of the row
-cell-new : (period bars : ℕ) (task : ℕ → Task) (touched : ℕ) (old rows : List ℕ) (i j : ℕ)
-    → cellOf (shared period bars (task i) (bitAt touched i)) (task j) touched old (getD rows (getD old i 0) 0) j ≡ cellNew period bars task touched old rows i j
+cell-new : (period bars : ℕ) (low : Task) (upper : ℕ → Task) (touched : ℕ) (old rows : List ℕ) (i j : ℕ)
+    → cellOf (shared period bars low (bitAt touched i)) (upper j) touched old (getD rows (getD old i 0) 0) j ≡ cellNew period bars low upper touched old rows i j
 unfolding cellOf cellCarried cellNew
-cell-new period bars task touched old rows i j = either-way (bitAt touched i) (bitAt touched j) _ _
+cell-new period bars low upper touched old rows i j = either-way (bitAt touched i) (bitAt touched j) _ _
 
 -- and so the row
-row-new : (count period bars : ℕ) (task : ℕ → Task) (touched : ℕ) (old rows : List ℕ) (i : ℕ) (low : Task) (whole : Bool) (before row : ℕ)
-    → low ≡ task i → whole ≡ bitAt touched i → before ≡ getD rows (getD old i 0) 0
-    → row ≡ rowFrom count (λ j. cellOf (shared period bars low whole) (task j) touched old before j) → row ≡ rowFrom count (cellNew period bars task touched old rows i)
-row-new count period bars task touched old rows i low whole before row here asked read made =
+row-new : (count period bars : ℕ) (low : Task) (upper : ℕ → Task) (touched : ℕ) (old rows : List ℕ) (i : ℕ) (whole : Bool) (before row : ℕ)
+    → whole ≡ bitAt touched i → before ≡ getD rows (getD old i 0) 0
+    → row ≡ rowFrom count (λ j. cellOf (shared period bars low whole) (upper j) touched old before j) → row ≡ rowFrom count (cellNew period bars low upper touched old rows i)
+row-new count period bars low upper touched old rows i whole before row asked read made =
     made
-    ∙ rw (here, asked, read)
-    (row-ext count (λ j. cellOf (shared period bars (task i) (bitAt touched i)) (task j) touched old (getD rows (getD old i 0) 0) j) (cellNew period bars task touched old rows i)
-    (λ j h. cell-new period bars task touched old rows i j))
+    ∙ rw (asked, read)
+    (row-ext count (λ j. cellOf (shared period bars low (bitAt touched i)) (upper j) touched old (getD rows (getD old i 0) 0) j) (cellNew period bars low upper touched old rows i)
+    (λ j h. cell-new period bars low upper touched old rows i j))
 
 returns : tie.Need-returns
 returns c =
-    let a = c .before .before .before .before .before .before .before .args in
-    let task : ℕ → Task = timedAt (a .transactions .now) (a .priorities .now) (a .offsets .now) (a .jitters .now) (a .responses .now) in
-    row-new (a .count) (a .period) (a .bars) task (a .touched) (a .old .now) (a .rows .now) (a .i) (c .before .before .before .before .timed-at .result) (c .before .before .before .is-set .result) (c .before .row-before .result) (c .carried-row .result) (c .before .before .before .before .timed-at .ensures) (c .before .before .before .is-set .ensures) (c .before .row-before .ensures) (c .carried-row .ensures)
+    let asked = c .before .before .before in
+    let a = asked .before .before .before .args in
+    let upper : ℕ → Task = upperAt (a .transactions .now) (a .priorities .now) (a .offsets .now) (a .jitters .now) in
+    row-new (a .count) (a .period) (a .bars) (a .low) upper (a .touched) (a .old .now) (a .rows .now) (a .i) (asked .is-set .result) (c .before .row-before .result) (c .carried-row .result) (asked .is-set .ensures) (c .before .row-before .ensures) (c .carried-row .ensures)
 
 pub new-row-spec : {M : Type 1} → statement M
 new-row-spec =
     tie.close
     (tie.spec
-    timed-at-requires
     is-set-requires
     mul-row-before
     shared-slice-read-row-before

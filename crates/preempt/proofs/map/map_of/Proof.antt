@@ -7,25 +7,25 @@ use borrow.Author.Needs.{needs}
 use lib.ListN.{getD}
 use Rattle.rules.specs.declared.Task.{Task}
 use Rattle.rules.specs.Preempt.{mayPreempt, rowFrom, mapFrom}
-use Rattle.preempt.specs.Tasks.{timedAt, decidedOn}
+use Rattle.preempt.specs.Tasks.{lowerAt, upperAt, decidedOn}
 use Rattle.preempt.specs.Bits.{bitAt, column}
 use Rattle.preempt.proofs.Columns.{column-none, column-filled}
 use Rattle.preempt.proofs.map.map_of.Statement.{statement}
 use Rattle.preempt.proofs.map.map_of.Tie as tie
 
 -- the row of a place
-abbrev row-at : List ℕ → List ℕ → (ℕ → Task) → ℕ → ℕ → ℕ
-row-at periods barred task count i = rowFrom count (decidedOn periods barred task i)
+abbrev row-at : List ℕ → List ℕ → (ℕ → Task) → (ℕ → Task) → ℕ → ℕ → ℕ
+row-at periods barred lower upper count i = rowFrom count (decidedOn periods barred lower upper i)
 
 -- the row of a task that is the one at the place
-placed : (periods barred : List ℕ) (task : ℕ → Task) (count i : ℕ) (low : Task) → low ≡ task i
-    → rowFrom count (λ j. mayPreempt (getD periods i 0) (bitAt (getD barred i 0) j) low (task j)) ≡ row-at periods barred task count i
-placed periods barred task count i low here =
-    ap (λ (t : Task). rowFrom count (λ j. mayPreempt (getD periods i 0) (bitAt (getD barred i 0) j) t (task j))) here
+placed : (periods barred : List ℕ) (lower upper : ℕ → Task) (count i : ℕ) (low : Task) → low ≡ lower i
+    → rowFrom count (λ j. mayPreempt (getD periods i 0) (bitAt (getD barred i 0) j) low (upper j)) ≡ row-at periods barred lower upper count i
+placed periods barred lower upper count i low here =
+    ap (λ (t : Task). rowFrom count (λ j. mayPreempt (getD periods i 0) (bitAt (getD barred i 0) j) t (upper j))) here
 
 abbrev Inv-loop : tie.InvT-loop
 Inv-loop transactions priorities offsets jitters responses periods barred count rows₀ i₀ rows i =
-    (i ≤ count) × (rows ≡ column i (row-at periods barred (timedAt transactions priorities offsets jitters responses) count))
+    (i ≤ count) × (rows ≡ column i (row-at periods barred (lowerAt transactions offsets responses priorities) (upperAt transactions priorities offsets jitters) count))
 
 abbrev μ-loop : tie.MeasureT-loop
 μ-loop transactions priorities offsets jitters responses periods barred count rows₀ i₀ rows i = count - i
@@ -33,8 +33,8 @@ abbrev μ-loop : tie.MeasureT-loop
 loop-holds : tie.Need-loop-holds Inv-loop μ-loop
 loop-holds c = (omega arith, column-none _)
 
-timed-at-requires : tie.Need-timed-at-requires Inv-loop μ-loop
-timed-at-requires c κs = search needs
+lower-at-requires : tie.Need-lower-at-requires Inv-loop μ-loop
+lower-at-requires c κs = search needs
 
 mul-row : tie.Need-mul-row Inv-loop μ-loop
 mul-row c = search needs
@@ -67,18 +67,20 @@ loop-again : tie.Need-loop-again Inv-loop μ-loop
 loop-again c =
     let a = c .before .before .before .before .before .before .args in
     let s = c .before .before .before .before .before .loop in
-    let low = c .before .before .before .timed-at in
-    let task : ℕ → Task = timedAt (a .transactions .now) (a .priorities .now) (a .offsets .now) (a .jitters .now) (a .responses .now) in
-    let here = c .row .ensures ∙ placed (a .periods .now) (a .barred .now) task (a .count) (s .i) (low .result) (low .ensures) in
-    (omega arith, column-filled (s .i) (row-at (a .periods .now) (a .barred .now) task (a .count)) (s .rows) (c .row .result) (omega arith) (s .inv .1) here)
+    let low = c .before .before .before .lower-at in
+    let lower : ℕ → Task = lowerAt (a .transactions .now) (a .offsets .now) (a .responses .now) (a .priorities .now) in
+    let upper : ℕ → Task = upperAt (a .transactions .now) (a .priorities .now) (a .offsets .now) (a .jitters .now) in
+    let here = c .row .ensures ∙ placed (a .periods .now) (a .barred .now) lower upper (a .count) (s .i) (low .result) (low .ensures) in
+    (omega arith, column-filled (s .i) (row-at (a .periods .now) (a .barred .now) lower upper (a .count)) (s .rows) (c .row .result) (omega arith) (s .inv .1) here)
 
 returns : tie.Need-returns Inv-loop μ-loop
 unfolding mapFrom column
 returns c =
     let a = c .before .before .args in
-    let task : ℕ → Task = timedAt (a .transactions .now) (a .priorities .now) (a .offsets .now) (a .jitters .now) (a .responses .now) in
+    let lower : ℕ → Task = lowerAt (a .transactions .now) (a .offsets .now) (a .responses .now) (a .priorities .now) in
+    let upper : ℕ → Task = upperAt (a .transactions .now) (a .priorities .now) (a .offsets .now) (a .jitters .now) in
     let end : c .before .loop .i ≡ a .count = omega arith in
-    c .before .loop .inv .1 ∙ ap (λ (n : ℕ). column n (row-at (a .periods .now) (a .barred .now) task (a .count))) end
+    c .before .loop .inv .1 ∙ ap (λ (n : ℕ). column n (row-at (a .periods .now) (a .barred .now) lower upper (a .count))) end
 
 pub map-of-spec : {M : Type 1} → statement M
 map-of-spec =
@@ -87,7 +89,7 @@ map-of-spec =
     Inv-loop
     μ-loop
     loop-holds
-    timed-at-requires
+    lower-at-requires
     mul-row
     element-copy-out-row
     mul-row-2

@@ -12,27 +12,27 @@ use Rattle.rules.specs.declared.Task.{Task}
 use Rattle.rules.specs.Preempt.{mayPreempt}
 use Rattle.rules.proofs.Numbers.{sumTo-zero}
 use Rattle.rules.proofs.Bits.{bitAt, bitsTo, bits-more, bits-same, bits-room, bits-end}
-use Rattle.preempt.specs.Tasks.{timedAt}
+use Rattle.preempt.specs.Tasks.{upperAt}
 use Rattle.preempt.proofs.map.row.Statement.{statement}
 use Rattle.preempt.proofs.map.row.Tie as tie
 
 -- whether cell j is set in the row of a task with this period and these bars
-abbrev is-cell : List ℕ → List ℕ → List ℕ → List ℕ → List ℕ → ℕ → ℕ → ℕ → Task → ℕ → Bool
-is-cell transactions priorities offsets jitters responses count period bars low j =
-    ltb j count && mayPreempt period (bitAt bars j) low (timedAt transactions priorities offsets jitters responses j)
+abbrev is-cell : List ℕ → List ℕ → List ℕ → List ℕ → ℕ → ℕ → ℕ → Task → ℕ → Bool
+is-cell transactions priorities offsets jitters count period bars low j =
+    ltb j count && mayPreempt period (bitAt bars j) low (upperAt transactions priorities offsets jitters j)
 
 abbrev Inv-loop : tie.InvT-loop
-Inv-loop transactions priorities offsets jitters responses count period bars low row₀ j₀ row j =
-    (j ≤ count) × (row ≡ bitsTo (is-cell transactions priorities offsets jitters responses count period bars low) j)
+Inv-loop transactions priorities offsets jitters count period bars low row₀ j₀ row j =
+    (j ≤ count) × (row ≡ bitsTo (is-cell transactions priorities offsets jitters count period bars low) j)
 
 abbrev μ-loop : tie.MeasureT-loop
-μ-loop transactions priorities offsets jitters responses count period bars low row₀ j₀ row j = count - j
+μ-loop transactions priorities offsets jitters count period bars low row₀ j₀ row j = count - j
 
 loop-holds : tie.Need-loop-holds Inv-loop μ-loop
 loop-holds c = (omega arith, sym (sumTo-zero _))
 
-timed-at-requires : tie.Need-timed-at-requires Inv-loop μ-loop
-timed-at-requires c κs = search needs
+upper-at-requires : tie.Need-upper-at-requires Inv-loop μ-loop
+upper-at-requires c κs = search needs
 
 is-set-requires : tie.Need-is-set-requires Inv-loop μ-loop
 is-set-requires c κs = search needs
@@ -47,7 +47,7 @@ add-row : tie.Need-add-row Inv-loop μ-loop
 add-row c =
     let a = c .before .before .before .before .before .before .before .args in
     let s = c .before .before .before .before .before .before .loop in
-    omega (arith, c .power .ensures, s .inv .1, bits-room (is-cell (a .transactions .now) (a .priorities .now) (a .offsets .now) (a .jitters .now) (a .responses .now) (a .count) (a .period) (a .bars) (a .low)) (s .j) (omega arith))
+    omega (arith, c .power .ensures, s .inv .1, bits-room (is-cell (a .transactions .now) (a .priorities .now) (a .offsets .now) (a .jitters .now) (a .count) (a .period) (a .bars) (a .low)) (s .j) (omega arith))
 
 add-j : tie.Need-add-j Inv-loop μ-loop
 add-j c = search needs
@@ -59,9 +59,9 @@ loop-again : tie.Need-loop-again Inv-loop μ-loop
 loop-again c =
     let a = c .before .before .before .before .before .before .args in
     let s = c .before .before .before .before .before .loop in
-    let test = is-cell (a .transactions .now) (a .priorities .now) (a .offsets .now) (a .jitters .now) (a .responses .now) (a .count) (a .period) (a .bars) (a .low) in
+    let test = is-cell (a .transactions .now) (a .priorities .now) (a .offsets .now) (a .jitters .now) (a .count) (a .period) (a .bars) (a .low) in
     let below = lt-ltb (s .j) (a .count) (c .before .before .before .before .loop-test .taken) in
-    let decided : test (s .j) ≡ c .before .may-preempt .result = rw (below, ← c .before .before .before .timed-at .ensures, ← c .before .before .is-set .ensures) (sym (c .before .may-preempt .ensures)) in
+    let decided : test (s .j) ≡ c .before .may-preempt .result = rw (below, ← c .before .before .before .upper-at .ensures, ← c .before .before .is-set .ensures) (sym (c .before .may-preempt .ensures)) in
     ⊎-elim
     (λ w.
     let set : test (s .j) ≡ true = decided ∙ w .0 .taken in
@@ -74,7 +74,7 @@ loop-again c =
 returns : tie.Need-returns Inv-loop μ-loop
 returns c =
     let a = c .before .before .args in
-    let test = is-cell (a .transactions .now) (a .priorities .now) (a .offsets .now) (a .jitters .now) (a .responses .now) (a .count) (a .period) (a .bars) (a .low) in
+    let test = is-cell (a .transactions .now) (a .priorities .now) (a .offsets .now) (a .jitters .now) (a .count) (a .period) (a .bars) (a .low) in
     let end : c .before .loop .j ≡ a .count = omega arith in
     c .before .loop .inv .1
     ∙ ap (bitsTo test) end
@@ -87,7 +87,7 @@ row-spec =
     Inv-loop
     μ-loop
     loop-holds
-    timed-at-requires
+    upper-at-requires
     is-set-requires
     may-preempt-requires
     power-requires

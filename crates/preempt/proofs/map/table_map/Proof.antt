@@ -5,7 +5,7 @@ use borrow.Author.Needs.{needs}
 use Rattle.rules.specs.Blocks.{records}
 use Rattle.rules.proofs.Maps.{map-ext}
 use Rattle.preempt.specs.Tasks.{decidedOn, decidedBy}
-use Rattle.preempt.proofs.Maps.{timedIn, decided-timed}
+use Rattle.preempt.proofs.Maps.{lowerIn, upperIn, decided-sides}
 use Rattle.preempt.proofs.Reading.{ids-directory, map-read}
 use Rattle.preempt.proofs.Accepted.{shape}
 use Rattle.preempt.proofs.map.table_map.Statement.{statement}
@@ -22,18 +22,20 @@ read-barred-requires c κs =
 
 map-of-requires : tie.Need-map-of-requires
 map-of-requires c κs =
-    let start = c .before .before .before .before .before .before .before .before .before .before .before .before .before .before in
-    omega (arith, c .before .before .before .before .before .before .before .before .before .before .before .before .read-tasks .ensures .count, shape (start .args .image .now) (c .before .before .before .before .before .before .before .before .before .before .before .before .before .shared-slice-known .given) (start .pre) .few-tasks)
+    let read = c .before .before .before .before .before .before .before .before .before .before .before .before in
+    let start = read .before .before in
+    omega (arith, read .read-tasks .ensures .count, shape (start .args .image .now) (read .before .shared-slice-known .given) (start .pre) .few-tasks)
 
 returns : tie.Need-returns
 returns c =
-    let start = c .before .before .before .before .before .before .before .before .before .before .before .before .before .before .before in
-    let tasks = c .before .before .before .before .before .before .before .before .before .before .before .before .before .read-tasks in
     let barred = c .before .before .before .before .before .before .before .before .before .read-barred in
-    let timed = decidedOn (tasks .result .periods) (barred .result) (timedIn (tasks .result)) in
+    let read = c .before .before .before .before .before .before .before .before .before .before .before .before .before in
+    let start = read .before .before in
+    let tasks = read .read-tasks in
+    let sides = decidedOn (tasks .result .periods) (barred .result) (lowerIn (tasks .result)) (upperIn (tasks .result)) in
     c .map-of .ensures
-    ∙ map-ext (tasks .result .count) timed (decidedBy (tasks .result) (barred .result)) (λ i j h l. decided-timed (tasks .result) (barred .result) i j)
-    ∙ map-read (records (start .args .image .now)) (tasks .result) (barred .result) (shape (start .args .image .now) (c .before .before .before .before .before .before .before .before .before .before .before .before .before .before .shared-slice-known .given) (start .pre)) (tasks .ensures) (barred .ensures)
+    ∙ map-ext (tasks .result .count) sides (decidedBy (tasks .result) (barred .result)) (λ i j h l. decided-sides (tasks .result) (barred .result) i j)
+    ∙ map-read (records (start .args .image .now)) (tasks .result) (barred .result) (shape (start .args .image .now) (read .before .shared-slice-known .given) (start .pre)) (tasks .ensures) (barred .ensures)
 
 pub table-map-spec : {M : Type 1} → statement M
 table-map-spec =
