@@ -6,7 +6,8 @@ enum reason { TRANSACTION = 1, JITTER, RESPONSE, PRIORITY, PAIR, TIMING };
 /* Each field of the tasks by their places, and the period of each task's transaction. */
 struct tasks {
     size_t count;
-    uint32_t ids[64], transactions[64], priorities[64], offsets[64], jitters[64], responses[64], sizes[64], periods[64];
+    uint32_t ids[64], transactions[64], priorities[64], offsets[64], jitters[64], responses[64], sizes[64], thresholds[64],
+        periods[64];
 };
 
 /* The period of the transaction with this number, or 0 where it is not listed. */
@@ -16,17 +17,19 @@ static uint32_t period_in(const uint8_t *image, size_t count, uint32_t number)
     return place == count ? 0 : four_bytes(record_at(image, place) + 8);
 }
 
-/* Reads what a task record says to place i, with the period of its transaction; a jitter that is missing is that period. */
+/* Reads what a task record says to place i, with the period of its transaction; a jitter that is missing is that period, and
+ * a threshold of 0 is the priority. */
 static void read_task(const uint8_t *fields, uint32_t period, struct tasks *tasks, size_t i)
 {
-    uint32_t jitter = four_bytes(fields + 12);
+    uint32_t priority = two_bytes(fields + 6), jitter = four_bytes(fields + 12);
     tasks->ids[i] = two_bytes(fields + 2);
     tasks->transactions[i] = two_bytes(fields + 4);
-    tasks->priorities[i] = two_bytes(fields + 6);
+    tasks->priorities[i] = priority;
     tasks->offsets[i] = four_bytes(fields + 8);
     tasks->jitters[i] = jitter == 4294967295 ? period : jitter;
     tasks->responses[i] = four_bytes(fields + 16);
     tasks->sizes[i] = two_bytes(fields + 20);
+    tasks->thresholds[i] = fields[22] == 0 ? priority : fields[22];
     tasks->periods[i] = period;
 }
 
@@ -76,7 +79,7 @@ static uint32_t distance(uint32_t period, uint32_t lower, uint32_t upper)
  * tasks a pair forbids. Each cell of a map asks it, so it is to be inlined. */
 static inline enum reason decide(const struct tasks *tasks, uint64_t barred, size_t i, size_t j)
 {
-    if (tasks->priorities[j] <= tasks->priorities[i])
+    if (tasks->priorities[j] <= tasks->thresholds[i])
         return PRIORITY;
     if (is_set(barred, j))
         return PAIR;

@@ -1,12 +1,12 @@
 /* The bound call: the chain, and the path, transactions and levels bounds. */
 
-/* Keeps only those set cells that count: both places hold tasks, and the first has lower priority. */
-static void relate_rows(const uint32_t *priorities, const uint64_t *map, size_t count, uint64_t rows[64])
+/* Keeps only those set cells that count: both places hold tasks, and the first's threshold is below the second's priority. */
+static void relate_rows(const struct tasks *tasks, const uint64_t *map, uint64_t rows[64])
 {
-    for (size_t i = 0; i < count; i++) {
+    for (size_t i = 0; i < tasks->count; i++) {
         uint64_t higher = 0;
-        for (size_t j = 0; j < count; j++)
-            if (priorities[i] < priorities[j])
+        for (size_t j = 0; j < tasks->count; j++)
+            if (tasks->thresholds[i] < tasks->priorities[j])
                 higher += (uint64_t)1 << j;
         rows[i] = higher & map[i];
     }
@@ -76,7 +76,7 @@ static struct plain_bounds find(const uint8_t *image, const struct sizes *sizes,
     struct chains chains;
     read_tasks(image, sizes, &tasks);
     setting.sizes = tasks.sizes;
-    relate_rows(tasks.priorities, map, tasks.count, setting.rows);
+    relate_rows(&tasks, map, setting.rows);
     order_by_falling(tasks.priorities, tasks.count, setting.order);
     find_heaviest(&setting, tasks.count, &chains);
     uint32_t path = path_bound(&setting, all_below(tasks.count));

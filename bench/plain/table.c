@@ -13,7 +13,7 @@ static bool has_zero_bytes(const uint8_t *fields)
     if (fields[0] == 1)
         return is_blank(fields + 1, 1) && is_blank(fields + 4, 4) && is_blank(fields + 12, 19);
     if (fields[0] == 2)
-        return is_blank(fields + 1, 1) && is_blank(fields + 22, 9);
+        return is_blank(fields + 1, 1) && is_blank(fields + 23, 8);
     return is_blank(fields + 6, 25);
 }
 
@@ -50,6 +50,8 @@ static bool is_task_right(const uint8_t *fields)
 {
     uint32_t priority = two_bytes(fields + 6);
     if (two_bytes(fields + 2) < 1 || two_bytes(fields + 4) < 1 || priority < 1 || priority > 255)
+        return false;
+    if (fields[22] != 0 && fields[22] < priority)
         return false;
     uint32_t offset = four_bytes(fields + 8), jitter = four_bytes(fields + 12), response = four_bytes(fields + 16);
     if (offset > 999999999 || (jitter > 1000000000 && jitter != 4294967295))

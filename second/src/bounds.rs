@@ -13,12 +13,11 @@ pub struct Relation {
 }
 
 impl Relation {
-    /// The cells of a map that count: both places hold tasks and the first has lower priority.
+    /// The cells of a map that count: both places hold tasks and the first yields to the second.
     pub fn read(tasks: &[Task], map: &[u64]) -> Relation {
         let places = 0..tasks.len();
-        let counts = |row: usize, cell: usize| {
-            tasks[row].priority < tasks[cell].priority && is_set(map, row, cell)
-        };
+        let counts =
+            |row: usize, cell: usize| tasks[row].yields_to(&tasks[cell]) && is_set(map, row, cell);
         let above = |row: usize| {
             places
                 .clone()

@@ -42,5 +42,6 @@ fn task(id: u16, offset: u32, priority: u16, response: u32, stack: u16) -> Task 
         jitter: 0,
         response,
         stack,
+        threshold: 0,
     }
 }

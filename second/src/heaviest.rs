@@ -25,5 +25,6 @@ fn task(rank: u16) -> Task {
         jitter: 1,
         response: 10_000,
         stack: u16::MAX,
+        threshold: 0,
     }
 }

@@ -36,6 +36,7 @@ fn task_of_case_12() -> Task {
         jitter: 0,
         response: 100,
         stack: 2,
+        threshold: 0,
     }
 }
 

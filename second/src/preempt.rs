@@ -24,7 +24,7 @@ pub fn may_be_preempted(table: &Table, lower: &Task, upper: &Task) -> bool {
 /// Why task `lower` may be preempted by task `upper`, or why it may not.
 pub fn reason_for(table: &Table, lower: &Task, upper: &Task) -> Reason {
     let forbids = |pair: &Pair| pair.forbids(lower.id, upper.id);
-    if lower.priority >= upper.priority {
+    if !lower.yields_to(upper) {
         Reason::Priority
     } else if table.pairs.iter().any(forbids) {
         Reason::Pair

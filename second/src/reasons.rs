@@ -9,7 +9,7 @@ pub enum Reason {
     Jitter = 2,
     /// Yes: the response of the less urgent task reaches past the next activation.
     Response = 3,
-    /// No: the second task is not more urgent than the first.
+    /// No: the second task's priority is not above the first one's threshold.
     Priority = 4,
     /// No: a listed pair forbids it.
     Pair = 5,

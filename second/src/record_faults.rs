@@ -21,7 +21,7 @@ pub const MOST_PRIORITY: u16 = 255;
 fn zero_bytes(kind: u8) -> Option<&'static [RangeInclusive<usize>]> {
     match kind {
         TRANSACTION => Some(&[1..=1, 4..=7, 12..=30]),
-        TASK => Some(&[1..=1, 22..=30]),
+        TASK => Some(&[1..=1, 23..=30]),
         PAIR => Some(&[6..=30]),
         _ => None,
     }
@@ -62,6 +62,7 @@ fn task_is_out_of_range(task: &Task) -> bool {
         || !jitter_is_right
         || !(task.offset..=MOST_RESPONSE).contains(&task.response)
         || task.stack == 0
+        || task.read_threshold() < task.priority
 }
 
 fn pair_is_out_of_range(record: &Record) -> bool {

@@ -24,6 +24,8 @@ pub const JITTER_AT: usize = 12;
 pub const RESPONSE_AT: usize = 16;
 /// Where a task's stack stands.
 pub const STACK_AT: usize = 20;
+/// Where a task's preemption threshold stands.
+pub const THRESHOLD_AT: usize = 22;
 /// Where a patch record says whether it is taken out or put in.
 pub const WAY_AT: usize = 31;
 
@@ -41,6 +43,8 @@ pub const PUT_IN: u8 = 1;
 
 /// The jitter that means not measured.
 pub const MISSING_JITTER: u32 = u32::MAX;
+/// The threshold that means equal to the priority.
+pub const THRESHOLD_OF_PRIORITY: u8 = 0;
 
 /// The bytes of one record as they stand in an image.
 #[derive(Clone, Copy, PartialEq, Eq, PartialOrd, Ord, Debug)]
@@ -139,7 +143,7 @@ impl Transaction {
     }
 }
 
-/// A task with its values as they are written, a missing jitter too.
+/// A task with its values as they are written, a missing jitter and a threshold of 0 too.
 #[derive(Clone, Copy, PartialEq, Eq, Debug)]
 pub struct Task {
     pub id: u16,
@@ -149,6 +153,7 @@ pub struct Task {
     pub jitter: u32,
     pub response: u32,
     pub stack: u16,
+    pub threshold: u8,
 }
 
 impl Task {
@@ -162,6 +167,7 @@ impl Task {
             jitter: u32_at(&record.0, JITTER_AT),
             response: u32_at(&record.0, RESPONSE_AT),
             stack: u16_at(&record.0, STACK_AT),
+            threshold: record.0[THRESHOLD_AT],
         }
     }
 
@@ -174,6 +180,7 @@ impl Task {
         put_u32(&mut record.0, JITTER_AT, self.jitter);
         put_u32(&mut record.0, RESPONSE_AT, self.response);
         put_u16(&mut record.0, STACK_AT, self.stack);
+        record.0[THRESHOLD_AT] = self.threshold;
         record
     }
 
@@ -183,6 +190,19 @@ impl Task {
             MISSING_JITTER => own_period,
             measured => measured,
         }
+    }
+
+    /// The threshold that the task has: 0 is its priority.
+    pub fn read_threshold(&self) -> u16 {
+        match self.threshold {
+            THRESHOLD_OF_PRIORITY => self.priority,
+            written => u16::from(written),
+        }
+    }
+
+    /// Whether task `upper` is urgent enough to preempt this one: its priority is above the threshold.
+    pub fn yields_to(&self, upper: &Task) -> bool {
+        self.read_threshold() < upper.priority
     }
 }
 

@@ -161,8 +161,8 @@ fn two_changes_in_one_block_can_cancel() {
         .iter()
         .all(|pair| check_is_right(&with_changes(&image, pair))));
     assert_eq!(pairs.len(), 75_718);
-    assert_eq!(pairs.iter().filter(accepted).count(), 1_903);
-    assert_eq!(lowering_pairs(&image).len(), 24);
+    assert_eq!(pairs.iter().filter(accepted).count(), 2_178);
+    assert_eq!(lowering_pairs(&image).len(), 100);
 }
 
 #[test]

@@ -66,13 +66,6 @@ fn refusal_9_hands_back_a_part_of_the_patch() {
     assert_eq!((room, map), ([9; 512], [9; 64]));
 }
 
-/// Why a patch that takes this task's record out of a table with this other record of it is refused.
-fn refusal_of_taking_out(taken_out: Task, listed: Task) -> Option<Refusal> {
-    let base = table(&[task(1, 1, 0, 0), listed], &[]);
-    let patch = patch_image(&[taken_out.record()], &[]);
-    apply(&table_image(&base), &patch, &true_map(&base)).err()
-}
-
 #[test]
 fn refusal_9_tells_a_missing_jitter_from_its_period_written() {
     let missing = unmeasured(2, 2, 0);

@@ -191,7 +191,7 @@ fn restated(table: &Table, lower: &Task, upper: &Task) -> Reason {
     ];
     let is_forbidden = forbidding.iter().any(|pair| table.pairs.contains(pair));
     let rules = [
-        (Reason::Priority, upper.priority <= lower.priority),
+        (Reason::Priority, !is_urgent_enough(lower, upper)),
         (Reason::Pair, is_forbidden),
         (Reason::Transaction, lower.transaction != upper.transaction),
         (Reason::Jitter, margins.jitter > 0),

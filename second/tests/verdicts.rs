@@ -135,7 +135,7 @@ fn the_other_form_is_refusal_3() {
 fn refusal_4_covers_every_byte_said_to_be_zero() {
     let zeros: [(usize, &[(usize, usize)]); 3] = [
         (1, &[(1, 1), (4, 7), (12, 31)]),
-        (7, &[(1, 1), (22, 31)]),
+        (7, &[(1, 1), (23, 31)]),
         (9, &[(6, 31)]),
     ];
     for (rank, ranges) in zeros {

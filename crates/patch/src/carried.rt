@@ -200,10 +200,11 @@ fn carried_rows(
     let offsets = tasks.offsets;
     let jitters = tasks.jitters;
     let responses = tasks.responses;
+    let thresholds = tasks.thresholds;
     let mut map = [0u64; 64];
     let mut i: usize = 0;
     while i < tasks.count {
-        let low = lower_at(&transactions, &offsets, &responses, &priorities, i);
+        let low = lower_at(&transactions, &offsets, &responses, &thresholds, i);
         map[i] = new_row(
             &transactions,
             &priorities,

@@ -23,6 +23,7 @@ tasksTo rs n i =
       jitters = column i (λ k. taskAt rs k .jitter);
       responses = column i (λ k. taskAt rs k .response);
       sizes = column i (λ k. taskAt rs k .size);
+      thresholds = column i (λ k. taskAt rs k .threshold);
       periods = column n (periodAt rs);
     }
 
@@ -37,6 +38,7 @@ tasks-none rs n =
       ← column-none (λ k. taskAt rs k .jitter),
       ← column-none (λ k. taskAt rs k .response),
       ← column-none (λ k. taskAt rs k .size),
+      ← column-none (λ k. taskAt rs k .threshold),
     )
 
 -- a task put at a place
@@ -51,6 +53,7 @@ withTask t i task =
       jitters = set (t .jitters) i (task .jitter);
       responses = set (t .responses) i (task .response);
       sizes = set (t .sizes) i (task .size);
+      thresholds = set (t .thresholds) i (task .threshold);
       periods = t .periods;
     }
 
@@ -68,6 +71,7 @@ tasks-more rs n i t task inside so-far here =
       column-more i (λ k. taskAt rs k .jitter) inside,
       column-more i (λ k. taskAt rs k .response) inside,
       column-more i (λ k. taskAt rs k .size) inside,
+      column-more i (λ k. taskAt rs k .threshold) inside,
     )
 
 -- and all of them
@@ -82,5 +86,6 @@ tasks-all rs t all =
       jitters = ap (λ (u : Tasks). u .jitters) all;
       responses = ap (λ (u : Tasks). u .responses) all;
       sizes = ap (λ (u : Tasks). u .sizes) all;
+      thresholds = ap (λ (u : Tasks). u .thresholds) all;
       periods = ap (λ (u : Tasks). u .periods) all;
     }

@@ -84,7 +84,7 @@ map-with-pair n test sort a b most h l = one-or-both n test (eqb sort 1) a b mos
 
 -- the task at a place with what a decision asks of either side, as it was read
 abbrev pub lowerIn : Tasks → ℕ → Task
-lowerIn t = lowerAt (t .transactions) (t .offsets) (t .responses) (t .priorities)
+lowerIn t = lowerAt (t .transactions) (t .offsets) (t .responses) (t .thresholds)
 
 abbrev pub upperIn : Tasks → ℕ → Task
 upperIn t = upperAt (t .transactions) (t .priorities) (t .offsets) (t .jitters)

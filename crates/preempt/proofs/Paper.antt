@@ -12,7 +12,7 @@ use lib.ListN.{length, getD}
 use Rattle.rules.specs.Numbers.{Bytes, some}
 use Rattle.rules.specs.Blocks.{records}
 use Rattle.rules.specs.Records.{numberOf, secondOf, sortOf, tasks, pairs, taskCount, taskAt, periodIn}
-use Rattle.rules.specs.Preempt.{distance, bars, barred, decided, cell, mapOf}
+use Rattle.rules.specs.Preempt.{distance, bars, barred, yields, decided, cell, mapOf}
 use Rattle.rules.specs.Refusals.{accepted, tableVerdict}
 use Rattle.rules.proofs.Numbers.{either, never, lowest-none, some-true, some-false}
 use Rattle.rules.proofs.Tests.{both-first, both-second}
@@ -145,16 +145,16 @@ module _ (rs : List (List ℕ)) (shape : Shape rs) (named : Listed rs) (i j : �
         let bar = barred rs (taskAt rs i .id) (taskAt rs j .id) in
         let here = cell-of-map (taskCount rs) (decided rs) i j (shape .few-tasks) h l ∙ may-preempt-was (period rs i) bar (taskAt rs i) (taskAt rs j) in (
           λ set.
-              let decision : (ltb (taskAt rs i .priority) (taskAt rs j .priority) && (not bar && timely (period rs i) (taskAt rs i) (taskAt rs j))) ≡ true = sym here ∙ set in
-              let rest = both-second (ltb (taskAt rs i .priority) (taskAt rs j .priority)) _ decision in
+              let decision : (yields (taskAt rs i) (taskAt rs j) && (not bar && timely (period rs i) (taskAt rs i) (taskAt rs j))) ≡ true = sym here ∙ set in
+              let rest = both-second (yields (taskAt rs i) (taskAt rs j)) _ decision in
               record {
-                urgent = ltb-true (taskAt rs i .priority) (taskAt rs j .priority) (both-first _ _ decision);
+                urgent = ltb-true (taskAt rs i .threshold) (taskAt rs j .priority) (both-first _ _ decision);
                 allowed = none-barred rs (taskAt rs i .id) (taskAt rs j .id) (not-true bar (both-first (not bar) _ rest));
                 timely = timing-says (both-second (not bar) _ rest);
               },
           λ p.
               here
-              ∙ rw (lt-ltb (taskAt rs i .priority) (taskAt rs j .priority) (p .urgent), barred-none rs (taskAt rs i .id) (taskAt rs j .id) (p .allowed))
+              ∙ rw (lt-ltb (taskAt rs i .threshold) (taskAt rs j .priority) (p .urgent), barred-none rs (taskAt rs i .id) (taskAt rs j .id) (p .allowed))
               (timing-holds (p .timely)),
         )
 

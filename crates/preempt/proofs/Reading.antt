@@ -22,8 +22,8 @@ field-at rs l f shape e i h = ap (λ (c : List ℕ). getD c i 0) e ∙ column-at
 -- all that can be read of a table's tasks
 pub tasks-read : (rs : List (List ℕ)) (t : Tasks) → TasksRead rs t → t ≡ tasksTo rs (taskCount rs) (taskCount rs)
 tasks-read rs t read =
-    let fields : Tasks = record { count = t .count; ids = t .ids; transactions = t .transactions; priorities = t .priorities; offsets = t .offsets; jitters = t .jitters; responses = t .responses; sizes = t .sizes; periods = t .periods } in
-    let same : fields ≡ tasksTo rs (taskCount rs) (taskCount rs) = rw (read .count, read .ids, read .transactions, read .priorities, read .offsets, read .jitters, read .responses, read .sizes, read .periods) in
+    let fields : Tasks = record { count = t .count; ids = t .ids; transactions = t .transactions; priorities = t .priorities; offsets = t .offsets; jitters = t .jitters; responses = t .responses; sizes = t .sizes; thresholds = t .thresholds; periods = t .periods } in
+    let same : fields ≡ tasksTo rs (taskCount rs) (taskCount rs) = rw (read .count, read .ids, read .transactions, read .priorities, read .offsets, read .jitters, read .responses, read .sizes, read .thresholds, read .periods) in
     same
 
 -- so two readings of one table are equal
@@ -57,6 +57,7 @@ module _ (rs : List (List ℕ)) (t : Tasks) (rows : List ℕ) (shape : Shape rs)
         field-at rs (t .jitters) (λ i. taskAt rs i .jitter) shape (read .jitters) i h,
         field-at rs (t .responses) (λ i. taskAt rs i .response) shape (read .responses) i h,
         field-at rs (t .sizes) (λ i. taskAt rs i .size) shape (read .sizes) i h,
+        field-at rs (t .thresholds) (λ i. taskAt rs i .threshold) shape (read .thresholds) i h,
       )
 
   -- a bit of a row is set where the pair of places is barred

@@ -29,9 +29,9 @@ abbrev pub Reaches : List (List ℕ) → ℕ → ℕ → ℕ → Type 0
 Reaches rs i j psi =
     (psi < taskAt rs j .jitter) ⊎ (period rs i - psi < taskAt rs i .response - taskAt rs i .offset)
 
--- (8): P_i < P_j, no pair forbids it, and the two are in different transactions or reach
+-- (8), where the threshold of i stands for P_i: it is below P_j, no pair forbids it, and the two are in different transactions or reach
 pub record Preempted (rs : List (List ℕ)) (i j psi : ℕ) : Type 0 where
-  pub urgent : taskAt rs i .priority < taskAt rs j .priority
+  pub urgent : taskAt rs i .threshold < taskAt rs j .priority
   pub allowed :
       (k : ℕ) → k < length (pairs rs) → Forbids (getD (pairs rs) k []) (taskAt rs i .id) (taskAt rs j .id) → ⊥
   pub timely : (Together rs i j → ⊥) ⊎ Reaches rs i j psi

@@ -20,6 +20,7 @@ pub record TasksRead (rs : List (List ℕ)) (t : Tasks) : Type 0 where
   pub jitters : t .jitters ≡ column (taskCount rs) (λ i. taskAt rs i .jitter)
   pub responses : t .responses ≡ column (taskCount rs) (λ i. taskAt rs i .response)
   pub sizes : t .sizes ≡ column (taskCount rs) (λ i. taskAt rs i .size)
+  pub thresholds : t .thresholds ≡ column (taskCount rs) (λ i. taskAt rs i .threshold)
   pub periods : t .periods ≡ column (taskCount rs) (periodAt rs)
 
 -- no task read yet of so many, whose transactions have these periods
@@ -34,6 +35,7 @@ noTasks count periods =
       jitters = replicate 64 0;
       responses = replicate 64 0;
       sizes = replicate 64 0;
+      thresholds = replicate 64 0;
       periods = periods;
     }
 
@@ -52,19 +54,21 @@ taskIn t i =
       jitter = getD (t .jitters) i 0;
       response = getD (t .responses) i 0;
       size = getD (t .sizes) i 0;
+      threshold = getD (t .thresholds) i 0;
     }
 
 -- the task at a place with what a decision asks of the one that is preempted; the other fields are 0
 abbrev pub lowerAt : List ℕ → List ℕ → List ℕ → List ℕ → ℕ → Task
-lowerAt transactions offsets responses priorities i =
+lowerAt transactions offsets responses thresholds i =
     record {
       id = 0;
       transaction = getD transactions i 0;
-      priority = getD priorities i 0;
+      priority = 0;
       offset = getD offsets i 0;
       jitter = 0;
       response = getD responses i 0;
       size = 0;
+      threshold = getD thresholds i 0;
     }
 
 -- and with what it asks of the one that preempts
@@ -78,6 +82,7 @@ upperAt transactions priorities offsets jitters j =
       jitter = getD jitters j 0;
       response = 0;
       size = 0;
+      threshold = 0;
     }
 
 -- the decision for two places, from the periods, the forbidden pairs and the tasks of either side by their places

@@ -68,7 +68,7 @@ fn timing_of(period: u32, low: Task, high: Task) -> Reason
 pub fn reason_of(period: u32, barred: bool, low: Task, high: Task) -> Reason
     ensures { λ r. ⌜ r ≡ reason period barred low high ⌝ }
 {
-    if high.priority <= low.priority {
+    if high.priority <= low.threshold {
         return Reason::Priority;
     }
     if barred {

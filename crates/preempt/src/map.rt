@@ -23,20 +23,21 @@ pub fn lower_at(
     transactions: &[u32; 64],
     offsets: &[u32; 64],
     responses: &[u32; 64],
-    priorities: &[u32; 64],
+    thresholds: &[u32; 64],
     i: usize,
 ) -> Task
     requires { ⌜ i < 64 ⌝ }
-    ensures { λ r. ⌜ r ≡ lowerAt (now (transactions .entry)) (now (offsets .entry)) (now (responses .entry)) (now (priorities .entry)) i ⌝ }
+    ensures { λ r. ⌜ r ≡ lowerAt (now (transactions .entry)) (now (offsets .entry)) (now (responses .entry)) (now (thresholds .entry)) i ⌝ }
 {
     Task {
         id: 0,
         transaction: transactions[i],
-        priority: priorities[i],
+        priority: 0,
         offset: offsets[i],
         jitter: 0,
         response: responses[i],
         size: 0,
+        threshold: thresholds[i],
     }
 }
 
@@ -59,6 +60,7 @@ pub fn upper_at(
         jitter: jitters[j],
         response: 0,
         size: 0,
+        threshold: 0,
     }
 }
 
@@ -96,17 +98,18 @@ pub fn map_of<'a>(
     offsets: &'a [u32; 64],
     jitters: &'a [u32; 64],
     responses: &'a [u32; 64],
+    thresholds: &'a [u32; 64],
     periods: &'a [u32; 64],
     barred: &'a [u64; 64],
     count: usize,
 ) -> [u64; 64]
     requires { ⌜ count ≤ 64 ⌝ }
-    ensures { λ r. ⌜ r ≡ mapFrom count (decidedOn (now (periods .entry)) (now (barred .entry)) (lowerAt (now (transactions .entry)) (now (offsets .entry)) (now (responses .entry)) (now (priorities .entry))) (upperAt (now (transactions .entry)) (now (priorities .entry)) (now (offsets .entry)) (now (jitters .entry)))) ⌝ }
+    ensures { λ r. ⌜ r ≡ mapFrom count (decidedOn (now (periods .entry)) (now (barred .entry)) (lowerAt (now (transactions .entry)) (now (offsets .entry)) (now (responses .entry)) (now (thresholds .entry))) (upperAt (now (transactions .entry)) (now (priorities .entry)) (now (offsets .entry)) (now (jitters .entry)))) ⌝ }
 {
     let mut rows = [0u64; 64];
     let mut i: usize = 0;
     while i < count {
-        let low = lower_at(transactions, offsets, responses, priorities, i);
+        let low = lower_at(transactions, offsets, responses, thresholds, i);
         rows[i] = row(
             transactions,
             priorities,
@@ -147,6 +150,7 @@ pub fn table_map(image: &[u8]) -> [u64; 64]
         &tasks.offsets,
         &tasks.jitters,
         &tasks.responses,
+        &tasks.thresholds,
         &tasks.periods,
         &barred,
         tasks.count,

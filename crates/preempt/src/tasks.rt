@@ -5,10 +5,11 @@ ghost use mathlib.Core.List.{[]};
 ghost use Prim.Native.Nat.{_<_};
 ghost use lib.ListN.{length, getD};
 ghost use Rattle.rules.specs.Blocks.{records};
-ghost use Rattle.rules.specs.Records.{jitterOf, taskOf, transactions, tasks, taskCount, periodIn, periodAt};
+ghost use Rattle.rules.specs.Records.{jitterOf, thresholdOf, taskOf, transactions, tasks, taskCount, periodIn, periodAt};
 ghost use Rattle.rules.specs.Refusals.{accepted, tableVerdict};
 ghost use Rattle.preempt.specs.Bits.{column};
 ghost use Rattle.preempt.specs.Tasks.{noTasks, TasksRead};
+use image::bytes::byte_at;
 use image::bytes::four_bytes;
 use image::bytes::two_bytes;
 use image::records::record_at;
@@ -26,6 +27,7 @@ pub struct Tasks {
     pub jitters: [u32; 64],
     pub responses: [u32; 64],
     pub sizes: [u32; 64],
+    pub thresholds: [u32; 64],
     pub periods: [u32; 64],
 }
 
@@ -39,18 +41,30 @@ fn jitter_of(period: u32, jitter: u32) -> u32
     jitter
 }
 
+// A threshold, where 0 is read as the task's priority.
+fn threshold_of(priority: u32, threshold: u32) -> u32
+    ensures { λ r. ⌜ r ≡ thresholdOf priority threshold ⌝ }
+{
+    if threshold == 0 {
+        return priority;
+    }
+    threshold
+}
+
 // What a task record says, where its transaction has this period.
 pub fn task_of(period: u32, fields: &[u8]) -> Task
     ensures { λ r. ⌜ r ≡ taskOf period (now (fields .entry)) ⌝ }
 {
+    let priority = two_bytes(fields, 6);
     Task {
         id: two_bytes(fields, 2),
         transaction: two_bytes(fields, 4),
-        priority: two_bytes(fields, 6),
+        priority,
         offset: four_bytes(fields, 8),
         jitter: jitter_of(period, four_bytes(fields, 12)),
         response: four_bytes(fields, 16),
         size: two_bytes(fields, 20),
+        threshold: threshold_of(priority, byte_at(fields, 22)),
     }
 }
 
@@ -124,6 +138,7 @@ fn no_tasks(count: usize, periods: [u32; 64]) -> Tasks
         jitters: none,
         responses: none,
         sizes: none,
+        thresholds: none,
         periods,
     }
 }
@@ -146,6 +161,7 @@ pub fn read_tasks(image: &[u8]) -> Tasks
         tasks.jitters[i] = task.jitter;
         tasks.responses[i] = task.response;
         tasks.sizes[i] = task.size;
+        tasks.thresholds[i] = task.threshold;
         i += 1;
     }
     tasks

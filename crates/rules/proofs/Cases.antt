@@ -1,9 +1,11 @@
--- Cases 1 to 11 of "On both sides", as one table with one theorem over it; their reasons; and the same for jitters left out.
+-- Cases 1 to 11 of "On both sides", as one table with one theorem over it; their reasons; and the same for jitters left out
+-- and for thresholds.
 use Prim.Native.Nat.{ℕ, _/_, _%_}
 use mathlib.Core.List.{List, [], _∷_, _++_}
 use mathlib.Core.Bool.{true, false}
 use mathlib.Core.Path.{_≡_, refl}
-use lib.ListN.{set, replicate}
+use lib.ListN.{getD, set, replicate}
+use Rattle.rules.specs.declared.Form.the-variants.{Table}
 use Rattle.rules.specs.declared.Reason.the-variants.{Transaction, Jitter, Response, Priority, Pair, Timing}
 use Rattle.rules.specs.Numbers.{sumTo, largestTo, upTo, lowest, blank}
 use Rattle.rules.specs.Records.{taskAt, ofKind, formWrong, rangeWrong, tooMany, referenceWrong}
@@ -144,3 +146,68 @@ pub unmeasured-read : (taskAt unsure 1 .jitter ≡ 10000)
     × (absentRefusal (together 617 617 0 10000) (task 2 1 0 2 missing 0 1 ∷ []) ≡ refusal 9 0)
 unfolding lowest ofKind same has takenOut putIn without put
 unmeasured-read = (refl, refl, refl, refl, refl)
+
+-- the record with this in byte 22
+abbrev pub withThreshold : ℕ → List ℕ → List ℕ
+withThreshold x r = set r 22 x
+
+-- case 8 where task 1, of priority 1, has this in byte 22: P_j is 2
+abbrev pub reluctant : ℕ → List (List ℕ)
+reluctant x = transaction 1 10000 ∷ transaction 2 10000 ∷ withThreshold x (task 1 1 0 1 0 0 1) ∷ task 2 2 0 2 0 0 1 ∷ []
+
+-- task 12 of figure 2, of priority 2, with this in byte 22
+abbrev pub task12 : ℕ → List ℕ
+task12 x = withThreshold x (task 12 1 1697 2 0 3837 1)
+
+-- figure 2 with it
+abbrev pub figure2Threshold : ℕ → List (List ℕ)
+figure2Threshold x = set figure2 3 (task12 x)
+
+-- a patch that changes nothing but byte 22 of that task
+abbrev pub exchanged : ℕ → ℕ → List (List ℕ)
+exchanged x y = task12 x ∷ puts (task12 y) ∷ []
+
+-- thresholds: 0, equal to the priority, equal to the other's, and 255; in figure 2, where 3 keeps the tasks of priority 3
+-- from preempting task 12, and 2 changes nothing; and under patches of byte 22 alone
+abbrev pub casesThreshold : List Case
+casesThreshold =
+    preempted (reluctant 0) 0 1 true
+    ∷ preempted (reluctant 1) 0 1 true
+    ∷ preempted (reluctant 2) 0 1 false
+    ∷ preempted (reluctant 255) 0 1 false
+    ∷ shown (figure2Threshold 2) (shownAs 8 (11 ∷ 12 ∷ 23 ∷ []) 10 9 10)
+    ∷ shown (figure2Threshold 3) (shownAs 7 (11 ∷ 23 ∷ []) 9 9 10)
+    ∷ patched figure2 (exchanged 0 3) (shownAs 7 (11 ∷ 23 ∷ []) 9 9 10) 1
+    ∷ patched (figure2Threshold 3) (exchanged 3 2) (shownAs 8 (11 ∷ 12 ∷ 23 ∷ []) 10 9 10) 1
+    ∷ []
+
+-- each of them holds of the definitions
+pub threshold-cases : AllHold casesThreshold
+unfolding sumTo largestTo upTo lowest blank ofKind formWrong rangeWrong tooMany referenceWrong reason mayPreempt barred decided mapFrom related same has takenOut putIn without put touched carried recordsVerdict figures pathSum sumFrom notAfter wins winner winnerTo heaviest
+threshold-cases = all-hold casesThreshold tt
+
+-- figure 2 with this in byte k of a record
+abbrev pub figure2Byte : ℕ → ℕ → ℕ → List (List ℕ)
+figure2Byte place k x = set figure2 place (set (getD figure2 place []) k x)
+
+-- how byte 22 is read; that a map with every cell set does not set aside a threshold, and that the word is `priority`; that
+-- neither of 0 and the priority written out stands for the other where a patch takes one out
+pub threshold-read : (taskAt (reluctant 0) 0 .threshold ≡ 1)
+    × (taskAt (reluctant 255) 0 .threshold ≡ 255)
+    × (related (reluctant 1) (replicate 64 18446744073709551615) 0 1 ≡ true)
+    × (related (reluctant 2) (replicate 64 18446744073709551615) 0 1 ≡ false)
+    × (reasonAt (reluctant 2) 0 1 ≡ Priority)
+    × (absentRefusal figure2 (task12 2 ∷ []) ≡ refusal 9 0)
+    × (absentRefusal (figure2Threshold 2) (task12 0 ∷ []) ≡ refusal 9 0)
+unfolding lowest ofKind reason barred reasonAt related same has takenOut
+threshold-read = (refl, refl, refl, refl, refl, refl, refl)
+
+-- what is refused: of task 13, of priority 4, the thresholds 1 and 3, and byte 23; of a transaction and of a pair byte 22
+pub threshold-refused : (recordsVerdict Table (figure2Byte 4 22 1) ≡ refusal 6 4)
+    × (recordsVerdict Table (figure2Byte 4 22 3) ≡ refusal 6 4)
+    × (recordsVerdict Table (figure2Byte 4 22 4) ≡ refusal 0 0)
+    × (recordsVerdict Table (figure2Byte 4 23 4) ≡ refusal 4 4)
+    × (recordsVerdict Table (figure2Byte 0 22 4) ≡ refusal 4 0)
+    × (recordsVerdict Table (figure2 ++ (set (oneWay 11 12) 22 4 ∷ [])) ≡ refusal 4 8)
+unfolding sumTo lowest blank ofKind formWrong rangeWrong tooMany recordsVerdict
+threshold-refused = (refl, refl, refl, refl, refl, refl)

@@ -10,6 +10,7 @@ pub mod Image
 pub mod Table
 pub mod Patch
 pub mod Unmeasured
+pub mod Thresholds
 pub mod Related
 pub mod FourBounds
 pub mod Enumerate

@@ -3,7 +3,6 @@ use Prim.Native.Nat.{ℕ, _≤_, _<_}
 use mathlib.Core.List.{List}
 use mathlib.Core.Bool.{Bool, true, false, cond, _&&_, _||_, not}
 use mathlib.Core.Path.{_≡_, refl, sym, _∙_}
-use native.Mathlib.Omega.{arith}
 use borrow.Author.Tests.{lt-ltb, le-ltb, eq-eqb, ne-eqb}
 use lib.Dec.{T, leb, eqb}
 use Rattle.rules.specs.declared.Reason.{Reason}
@@ -57,10 +56,10 @@ pub decided-reason : (rs : List (List ℕ)) (i j : ℕ) → decided rs i j ≡ t
 unfolding decided mayPreempt reasonAt
 decided-reason rs i j = refl
 
--- a task with itself
-pub itself-priority : (t : ℕ) (barred : Bool) (i : Task) → reason t barred i i ≡ Priority
+-- a task with itself, as its threshold is never below its priority
+pub itself-priority : (t : ℕ) (barred : Bool) (i : Task) → i .priority ≤ i .threshold → reason t barred i i ≡ Priority
 unfolding reason
-itself-priority t barred i = rw (le-ltb (i .priority) (i .priority) (omega arith))
+itself-priority t barred i right = rw (le-ltb (i .threshold) (i .priority) right)
 
 -- two tasks that priority and pairs let nest
 module _ (t : ℕ) (i j : Task) (urgent : yields i j ≡ true) where

@@ -53,6 +53,7 @@ withJitter x task =
       jitter = x;
       response = task .response;
       size = task .size;
+      threshold = task .threshold;
     }
 
 -- where the jitter of two tasks is not asked

@@ -31,9 +31,9 @@ timing t i j =
     (cond (responseReaches t i j) Response
     Timing))
 
--- the first condition of (8): task i yields to task j, which has the higher priority
+-- the first condition of (8): task i yields to task j, as its threshold is below j's priority
 abbrev pub yields : Task → Task → Bool
-yields i j = ltb (i .priority) (j .priority)
+yields i j = ltb (i .threshold) (j .priority)
 
 -- (8): the first condition that fails, of priority, pair and timing, or else why task i may be preempted by task j; t is
 -- the period of i's transaction and barred says that a pair forbids it

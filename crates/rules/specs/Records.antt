@@ -32,6 +32,10 @@ unmeasured j = eqb j 4294967295
 abbrev pub jitterOf : ℕ → ℕ → ℕ
 jitterOf period j = cond (unmeasured j) period j
 
+-- a task's threshold, from its priority P and byte 22: 0 means equal to P
+abbrev pub thresholdOf : ℕ → ℕ → ℕ
+thresholdOf p b = cond (eqb b 0) p b
+
 -- what a task's record says, where its transaction has this period
 abbrev pub taskOf : ℕ → List ℕ → Task
 taskOf period r =
@@ -43,6 +47,7 @@ taskOf period r =
       jitter = jitterOf period (le4 r 12);
       response = le4 r 16;
       size = le2 r 20;
+      threshold = thresholdOf (le2 r 6) (getD r 22 0);
     }
 
 -- a pair's byte 1: 0 one-way, 1 precedence
@@ -61,7 +66,7 @@ mostWay Patch = 1
 abbrev pub zeroBytes : List ℕ → Bool
 zeroBytes r =
     cond (eqb (kindOf r) 1) (blank r 1 1 && (blank r 4 4 && blank r 12 19))
-    (cond (eqb (kindOf r) 2) (blank r 1 1 && blank r 22 9)
+    (cond (eqb (kindOf r) 2) (blank r 1 1 && blank r 23 8)
     (blank r 6 25))
 
 -- unknown kind, or a byte said to be 0 isn't (byte 31 of a patch record: not 0 or 1)
@@ -81,9 +86,15 @@ imageKey r = wayOf r * 1099511627776 + key r
 abbrev pub transactionRight : List ℕ → Bool
 transactionRight r = leb 1 (numberOf r) && between 1 (periodOf r) 1000000000
 
--- of a task: id, transaction and P
+-- of a task's byte 22: 0, or from its priority P on
+abbrev pub thresholdRight : ℕ → ℕ → Bool
+thresholdRight p b = eqb b 0 || leb p b
+
+-- of a task: id, transaction, P and threshold
 abbrev pub nameRight : List ℕ → Bool
-nameRight r = leb 1 (numberOf r) && (leb 1 (secondOf r) && between 1 (le2 r 6) 255)
+nameRight r =
+    leb 1 (numberOf r)
+    && (leb 1 (secondOf r) && (between 1 (le2 r 6) 255 && thresholdRight (le2 r 6) (getD r 22 0)))
 
 -- J alone may be missing
 abbrev pub jitterRight : ℕ → Bool

@@ -30,7 +30,7 @@ pub struct Verdict {
     pub place: u32,
 }
 
-// What a task record says, with a missing jitter read as the period of its transaction.
+// What a task record says: a missing jitter is read as the period of its transaction, a threshold of 0 as the priority.
 pub struct Task {
     pub id: u32,
     pub transaction: u32,
@@ -39,6 +39,7 @@ pub struct Task {
     pub jitter: u32,
     pub response: u32,
     pub size: u32,
+    pub threshold: u32,
 }
 
 // Why a task may be preempted by another, the first three, or why it may not, the others.

@@ -94,6 +94,9 @@ module _ (rs : List (List ℕ)) (lent : List ℕ) (t : Tasks) (shape : Shape rs)
   pub priorities-same : (λ (i : ℕ). getD (t .priorities) i 0) ≡ priorityAt rs
   priorities-same = fun-ext (field-total rs (λ task. task .priority) (t .priorities) (shape .few-tasks) refl (read .priorities))
 
+  thresholds-same : (i : ℕ) → getD (t .thresholds) i 0 ≡ taskAt rs i .threshold
+  thresholds-same = field-total rs (λ task. task .threshold) (t .thresholds) (shape .few-tasks) refl (read .thresholds)
+
   pub numbers-same : (i : ℕ) → getD (t .transactions) i 0 ≡ taskAt rs i .transaction
   numbers-same = field-total rs (λ task. task .transaction) (t .transactions) (shape .few-tasks) refl (read .transactions)
 
@@ -102,7 +105,7 @@ module _ (rs : List (List ℕ)) (lent : List ℕ) (t : Tasks) (shape : Shape rs)
 
   -- rows in which a cell counts as it does for the bounds are the relation
   pub rows-same : (rows : List ℕ)
-      → ((i j : ℕ) → cell rows i j ≡ ((ltb i (t .count) && ltb j (t .count)) && (ltb (getD (t .priorities) i 0) (getD (t .priorities) j 0) && cell lent i j)))
+      → ((i j : ℕ) → cell rows i j ≡ ((ltb i (t .count) && ltb j (t .count)) && (ltb (getD (t .thresholds) i 0) (getD (t .priorities) j 0) && cell lent i j)))
       → cell rows ≡ related rs lent
   unfolding related
   rows-same rows cells =
@@ -111,7 +114,7 @@ module _ (rs : List (List ℕ)) (lent : List ℕ) (t : Tasks) (shape : Shape rs)
       fun-ext
       (λ j.
       let one : (k : ℕ) → getD (t .priorities) k 0 ≡ priorityAt rs k = λ k. ap (λ (f : ℕ → ℕ). f k) priorities-same in
-      cells i j ∙ rw (read .count, one i, one j)))
+      cells i j ∙ rw (read .count, thresholds-same i, one j)))
 
   module _ (rows : List ℕ) (same : cell rows ≡ related rs lent) where
     pub chain-found : (c : List ℕ) → Heaviest (t .count) (cell rows) (sizeIn (t .sizes)) (λ i. i) c

@@ -47,6 +47,9 @@ module _ (image : List ℕ) (known : (k : ℕ) → Fits w8 (getD image k 0)) (ri
   pub priorities-long : length (t .priorities) ≡ 64
   priorities-long = ap length (read .priorities) ∙ column-length (taskCount (records image)) (λ i. taskAt (records image) i .priority)
 
+  pub thresholds-long : length (t .thresholds) ≡ 64
+  thresholds-long = ap length (read .thresholds) ∙ column-length (taskCount (records image)) (λ i. taskAt (records image) i .threshold)
+
   pub sizes-long : length (t .sizes) ≡ 64
   sizes-long = ap length (read .sizes) ∙ column-length (taskCount (records image)) (λ i. taskAt (records image) i .size)
 
@@ -63,6 +66,9 @@ module _ (image : List ℕ) (known : (k : ℕ) → Fits w8 (getD image k 0)) (ri
   priority-is : (i : ℕ) → getD (t .priorities) i 0 ≡ priorityAt (records image) i
   priority-is = field-total (records image) (λ task. task .priority) (t .priorities) (accepted-shape .few-tasks) (λ i. 0) (read .priorities)
 
+  threshold-is : (i : ℕ) → getD (t .thresholds) i 0 ≡ taskAt (records image) i .threshold
+  threshold-is = field-total (records image) (λ task. task .threshold) (t .thresholds) (accepted-shape .few-tasks) (λ i. 0) (read .thresholds)
+
   -- a number of two bytes fits two bytes, at any place
   pub sizes-light : (i : ℕ) → getD (t .sizes) i 0 ≤ 65535
   sizes-light i =
@@ -72,8 +78,8 @@ module _ (image : List ℕ) (known : (k : ℕ) → Fits w8 (getD image k 0)) (ri
   ids-small i =
       omega (arith, field-total (records image) (λ task. task .id) (t .ids) (accepted-shape .few-tasks) (λ i. 0) (read .ids) i, le2-small (getD (tasks (records image)) i []) (ofKind-bytes image (λ k. known k .fits) 2 i) 2)
 
-  -- cells that count rise in priority
-  pub rows-rising : (lent rows : List ℕ) → RelatedRows (t .count) (t .priorities) lent rows → Rising (t .count) rows (t .priorities)
+  -- cells that count rise in priority, as no threshold is below its task's
+  pub rows-rising : (lent rows : List ℕ) → RelatedRows (t .count) (t .thresholds) (t .priorities) lent rows → Rising (t .count) rows (t .priorities)
   rows-rising lent rows related =
       record {
         priority-count = priorities-long;
@@ -82,12 +88,13 @@ module _ (image : List ℕ) (known : (k : ℕ) → Fits w8 (getD image k 0)) (ri
             (ltb-true i (t .count) (both-first (ltb i (t .count)) (ltb j (t .count)) both), ltb-true j (t .count) (both-second (ltb i (t .count)) (ltb j (t .count)) both));
         rises = λ i j h k may.
             let both = sym (related .cells i j) ∙ T-true (cell rows i j) may in
-            ltb-true (getD (t .priorities) i 0) (getD (t .priorities) j 0) (both-first (ltb (getD (t .priorities) i 0) (getD (t .priorities) j 0)) (cell lent i j) (both-second (ltb i (t .count) && ltb j (t .count)) _ both));
+            let above = ltb-true (getD (t .thresholds) i 0) (getD (t .priorities) j 0) (both-first (ltb (getD (t .thresholds) i 0) (getD (t .priorities) j 0)) (cell lent i j) (both-second (ltb i (t .count) && ltb j (t .count)) _ both)) in
+            omega (arith, above, priority-is i, threshold-is i, ranges i h .threshold-from-priority);
         least = λ i h. omega (arith, priority-is i, ranges i h .some-priority);
         most = λ i h. omega (arith, priority-is i, ranges i h .most-priority);
       }
 
-  pub rows-ready : (lent rows order : List ℕ) → length order ≡ 64 → RelatedRows (t .count) (t .priorities) lent rows → Falling (t .count) (t .priorities) order
+  pub rows-ready : (lent rows order : List ℕ) → length order ≡ 64 → RelatedRows (t .count) (t .thresholds) (t .priorities) lent rows → Falling (t .count) (t .priorities) order
       → Ready (t .count) rows (t .sizes) order
   rows-ready lent rows order long related falling =
       falling-ready few-read (related .row-count) sizes-long long (λ i h. sizes-light i) falling (rows-rising lent rows related)

@@ -90,10 +90,11 @@ fn find(image: &[u8], tasks: Tasks, map: &[u64]) -> Found
     ensures { λ r. ⌜ FoundFor (records (now (image .entry))) (now (map .entry)) r ⌝ }
 {
     let count = tasks.count;
+    let thresholds = tasks.thresholds;
     let priorities = tasks.priorities;
     let sizes = tasks.sizes;
     let numbers = tasks.transactions;
-    let rows = related_rows(&priorities, map, count);
+    let rows = related_rows(&thresholds, &priorities, map, count);
     let order = by_falling_priority(&priorities, count);
     find_over(image, &priorities, &sizes, &numbers, &rows, &order, count)
 }

@@ -40,7 +40,7 @@ fn has_zero_bytes(fields: &[u8]) -> bool
         if !is_blank(fields, 1, 1) {
             return false;
         }
-        return is_blank(fields, 22, 9);
+        return is_blank(fields, 23, 8);
     }
     is_blank(fields, 6, 25)
 }

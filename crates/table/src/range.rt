@@ -4,7 +4,7 @@ ghost use mathlib.Core.List.{[]};
 ghost use lib.ListN.{getD};
 ghost use Rattle.rules.specs.Numbers.{lowest};
 ghost use Rattle.rules.specs.Blocks.{records, recordCount};
-ghost use Rattle.rules.specs.Records.{transactionRight, nameRight, jitterRight, timeRight, taskRight, pairRight, rangeWrong};
+ghost use Rattle.rules.specs.Records.{transactionRight, nameRight, jitterRight, timeRight, thresholdRight, taskRight, pairRight, rangeWrong};
 ghost use Rattle.image.specs.Held.{HoldsRecords};
 use image::bytes::byte_at;
 use image::bytes::four_bytes;
@@ -25,7 +25,17 @@ fn is_transaction_right(fields: &[u8]) -> bool
     period <= 1_000_000_000
 }
 
-// Whether id, transaction and priority of a task are in range.
+// Whether a threshold is 0 or not below the priority.
+fn is_threshold_right(priority: u32, threshold: u32) -> bool
+    ensures { λ r. ⌜ r ≡ thresholdRight priority threshold ⌝ }
+{
+    if threshold == 0 {
+        return true;
+    }
+    priority <= threshold
+}
+
+// Whether id, transaction, priority and threshold of a task are in range.
 fn is_name_right(fields: &[u8]) -> bool
     ensures { λ r. ⌜ r ≡ nameRight (now (fields .entry)) ⌝ }
 {
@@ -39,7 +49,10 @@ fn is_name_right(fields: &[u8]) -> bool
     if priority < 1 {
         return false;
     }
-    priority <= 255
+    if 255 < priority {
+        return false;
+    }
+    is_threshold_right(priority, byte_at(fields, 22))
 }
 
 // Whether a jitter is in range or missing.

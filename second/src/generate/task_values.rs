@@ -107,6 +107,7 @@ pub fn draw_task(random: &mut Random, style: &Style, id: u16, transaction: &Tran
         jitter: draw_jitter(random, style.times, transaction.period),
         response: draw_response(random, style.times, offset, transaction.period),
         stack: random.pick(&style.stacks),
+        threshold: 0,
     }
 }
 

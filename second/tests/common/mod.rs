@@ -2,7 +2,7 @@
 
 #![allow(dead_code)]
 
-use second::blocks::{image_of, Form};
+use second::blocks::{image_of, patch_image, Form};
 use second::bound_call::{bound_call, Bounds};
 use second::generate::random::Random;
 use second::generate::tables::fullest_table;
@@ -25,6 +25,7 @@ pub fn task(id: u16, priority: u16, offset: u32, response: u32) -> Task {
         jitter: 0,
         response,
         stack: 1,
+        threshold: 0,
     }
 }
 
@@ -34,6 +35,17 @@ pub fn unmeasured(id: u16, priority: u16, offset: u32) -> Task {
         jitter: MISSING_JITTER,
         ..task(id, priority, offset, offset)
     }
+}
+
+/// The same task with this threshold written.
+pub fn with_threshold(threshold: u8, task: Task) -> Task {
+    Task { threshold, ..task }
+}
+
+/// Whether the upper task's priority is above the lower one's threshold, or above its priority where that is 0.
+pub fn is_urgent_enough(lower: &Task, upper: &Task) -> bool {
+    let written = u16::from(lower.threshold);
+    upper.priority > lower.priority && (written == 0 || upper.priority > written)
 }
 
 /// A table of these tasks and pairs with transactions 1 and 2.
@@ -148,6 +160,13 @@ pub fn numbers_in(part: &str) -> Vec<u32> {
         .split_whitespace()
         .map(|number| number.parse().expect("a decimal number"))
         .collect()
+}
+
+/// Why a patch that takes this task's record out of a table with this other record of it is refused.
+pub fn refusal_of_taking_out(taken_out: Task, listed: Task) -> Option<Refusal> {
+    let base = table(&[task(1, 1, 0, 0), listed], &[]);
+    let patch = patch_image(&[taken_out.record()], &[]);
+    apply(&table_image(&base), &patch, &true_map(&base)).err()
 }
 
 /// What an accepted patch leaves.

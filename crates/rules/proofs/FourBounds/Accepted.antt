@@ -1,21 +1,33 @@
 -- What an accepted table says of its tasks: the transaction of each is listed, and each yields only to higher priorities.
-use Prim.Native.Nat.{ℕ, _<_}
-use mathlib.Core.List.{List}
-use mathlib.Core.Bool.{true}
+use Prim.Native.Nat.{ℕ, _≤_, _<_}
+use mathlib.Core.List.{List, []}
+use mathlib.Core.Bool.{true, false}
 use mathlib.Core.Path.{_≡_}
+use native.Mathlib.Omega.{arith}
 use borrow.Author.Tests.{ltb-true}
+use lib.ListN.{getD}
 use Rattle.rules.specs.declared.Form.the-variants.{Table}
 use Rattle.rules.specs.Blocks.{records}
-use Rattle.rules.specs.Records.{taskCount, taskAt, transactions, listed}
+use Rattle.rules.specs.Records.{rangeWrong, tasks, taskCount, taskAt, transactions, listed}
 use Rattle.rules.specs.Refusals.{accepted, orElse, frameVerdict, recordsVerdict, referenceRefusal, tableVerdict}
 use Rattle.rules.specs.Chains.{priorityAt}
 use Rattle.rules.proofs.Refusals.{accepted-first, accepted-second}
 use Rattle.rules.proofs.Related.{Climbing}
+use Rattle.rules.proofs.Table.Kinds.{kind-ofKind, ofKind-each}
+use Rattle.rules.proofs.Table.Ranges.{task-right, task-ranges}
+use Rattle.rules.proofs.Table.Shape.{faultless-of}
 use Rattle.rules.proofs.Table.Listed.{listed-of}
 
--- records without a fault in form and order: each task yields only to tasks of higher priority
+-- records without a fault in form, order and range: no task's threshold is below its priority
+pub records-thresholds : (rs : List (List ℕ)) → accepted (recordsVerdict Table rs) ≡ true → (i : ℕ) → i < taskCount rs → priorityAt rs i ≤ taskAt rs i .threshold
+records-thresholds rs h i l =
+    let right = ofKind-each (λ r. rangeWrong r ≡ false) 2 rs (faultless-of rs h .ranges) i l in
+    task-ranges (getD (tasks rs) i []) (task-right (getD (tasks rs) i []) right (kind-ofKind 2 rs i l)) .threshold-from-priority
+
+-- so each yields only to tasks of higher priority
 pub records-climbing : (rs : List (List ℕ)) → accepted (recordsVerdict Table rs) ≡ true → Climbing rs
-records-climbing rs h i j l = ltb-true (priorityAt rs i) (priorityAt rs j)
+records-climbing rs h i j l yielding =
+    omega (arith, records-thresholds rs h i l, ltb-true (taskAt rs i .threshold) (priorityAt rs j) yielding)
 
 -- so it is in an accepted table
 pub accepted-climbing : (image : List ℕ) → accepted (tableVerdict image) ≡ true → Climbing (records image)

@@ -54,6 +54,7 @@ module _ (p : List ℕ) where
         put-four 12 (omega arith),
         put-four 16 (omega arith),
         put-two 20 (omega arith),
+        put-byte 22 (omega arith),
       )
 
   -- the bytes below 31 that are said to be 0 are 0 where those of p are
@@ -71,7 +72,7 @@ module _ (p : List ℕ) where
         put-blank 1 1 (omega arith),
         put-blank 4 4 (omega arith),
         put-blank 12 19 (omega arith),
-        put-blank 22 9 (omega arith),
+        put-blank 23 8 (omega arith),
         put-blank 6 25 (omega arith),
       )
 

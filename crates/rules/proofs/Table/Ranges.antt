@@ -5,9 +5,10 @@ use mathlib.Core.Bool.{true, false, _&&_, not}
 use mathlib.Core.Path.{_≡_, refl}
 use native.Mathlib.Omega.{arith}
 use borrow.Author.Tests.{leb-true, eqb-false, eq-eqb, ne-eqb, not-true, not-false}
+use lib.ListN.{getD}
 use lib.Dec.{leb, eqb}
 use Rattle.rules.specs.Numbers.{Bytes, le2, le4, between}
-use Rattle.rules.specs.Records.{kindOf, numberOf, secondOf, periodOf, unmeasured, jitterOf, sortOf, transactionRight, nameRight, jitterRight, timeRight, taskRight, pairRight, rangeWrong}
+use Rattle.rules.specs.Records.{kindOf, numberOf, secondOf, periodOf, unmeasured, jitterOf, thresholdOf, sortOf, transactionRight, nameRight, jitterRight, timeRight, thresholdRight, taskRight, pairRight, rangeWrong}
 use Rattle.rules.proofs.Numbers.{either, never}
 use Rattle.rules.proofs.Tests.{both-first, both-second}
 
@@ -70,6 +71,7 @@ pub record TaskRanges (r : List ℕ) : Type 0 where
   pub response-from-offset : le4 r 8 ≤ le4 r 16
   pub most-response : le4 r 16 ≤ 2000000000
   pub some-size : 1 ≤ le2 r 20
+  pub threshold-from-priority : le2 r 6 ≤ thresholdOf (le2 r 6) (getD r 22 0)
 
 -- a jitter that is in range, or missing where the period is, is read as one in range
 jitter-most : (j : ℕ) → jitterRight j ≡ true → (period : ℕ) → period ≤ 1000000000 → jitterOf period j ≤ 1000000000
@@ -78,6 +80,10 @@ jitter-most j h period short =
     (λ t. rw t short)
     (λ t. rw t (either (leb j 1000000000) (leb-true j 1000000000) (λ s. never false (rw (s, t) at h) refl)))
 
+-- a threshold that is in range is never read as one below the priority
+threshold-from : (p b : ℕ) → thresholdRight p b ≡ true → p ≤ thresholdOf p b
+threshold-from p b h = either (eqb b 0) (λ t. rw t (omega arith)) (λ t. rw t (leb-true p b (rw t at h)))
+
 -- a task that passes its test has them
 pub task-ranges : (r : List ℕ) → taskRight r ≡ true → TaskRanges r
 task-ranges r h =
@@ -85,7 +91,8 @@ task-ranges r h =
     let rest = both-second (nameRight r) (timeRight r && leb 1 (le2 r 20)) h in
     let time = both-first (timeRight r) (leb 1 (le2 r 20)) rest in
     let name′ = both-second (leb 1 (numberOf r)) _ name in
-    let priority = both-second (leb 1 (secondOf r)) (between 1 (le2 r 6) 255) name′ in
+    let name″ = both-second (leb 1 (secondOf r)) _ name′ in
+    let priority = both-first (between 1 (le2 r 6) 255) _ name″ in
     let time′ = both-second (leb (le4 r 8) 999999999) _ time in
     let response = both-second (jitterRight (le4 r 12)) (between (le4 r 8) (le4 r 16) 2000000000) time′ in
     record {
@@ -98,6 +105,7 @@ task-ranges r h =
       response-from-offset = between-least (le4 r 8) (le4 r 16) 2000000000 response;
       most-response = between-most (le4 r 8) (le4 r 16) 2000000000 response;
       some-size = leb-true 1 (le2 r 20) (both-second (timeRight r) (leb 1 (le2 r 20)) rest);
+      threshold-from-priority = threshold-from (le2 r 6) (getD r 22 0) (both-second (between 1 (le2 r 6) 255) _ name″);
     }
 
 -- the ranges of a pair's fields

@@ -37,15 +37,15 @@ row-same tasks barred touched old rows i low here =
     (λ j h. cell-same tasks barred touched old rows i j))
 
 abbrev Inv-loop : tie.InvT-loop
-Inv-loop touched old rows tasks barred transactions priorities offsets jitters responses map₀ i₀ map i =
+Inv-loop touched old rows tasks barred transactions priorities offsets jitters responses thresholds map₀ i₀ map i =
     (i ≤ tasks .count) × (map ≡ column i (row-at tasks barred touched old rows))
 
 abbrev μ-loop : tie.MeasureT-loop
-μ-loop touched old rows tasks barred transactions priorities offsets jitters responses map₀ i₀ map i = tasks .count - i
+μ-loop touched old rows tasks barred transactions priorities offsets jitters responses thresholds map₀ i₀ map i = tasks .count - i
 
 loop-holds : tie.Need-loop-holds Inv-loop μ-loop
 loop-holds c =
-    let a = c .before .before .before .before .before .before .before .args in
+    let a = c .before .before .before .before .before .before .before .before .args in
     (omega arith, column-none (row-at (a .t1) (a .t2) (a .touched) (a .old .now) (a .rows .now)))
 
 lower-at-requires : tie.Need-lower-at-requires Inv-loop μ-loop
@@ -83,7 +83,7 @@ loop-again c =
     let read = c .before .before .before .before .before .before in
     let inside = read .before .before .before .before .before in
     let turn = inside .before in
-    let start = turn .before .before .before .before .before .before .before .before in
+    let start = turn .before .before .before .before .before .before .before .before .before in
     let a = start .args in
     let s = turn .loop in
     let here = c .new-row .ensures ∙ row-same (a .t1) (a .t2) (a .touched) (a .old .now) (a .rows .now) (s .i) (read .lower-at .result) (read .lower-at .ensures) in
@@ -92,7 +92,7 @@ loop-again c =
 returns : tie.Need-returns Inv-loop μ-loop
 unfolding mapFrom column
 returns c =
-    let a = c .before .before .before .before .before .before .before .before .before .args in
+    let a = c .before .before .before .before .before .before .before .before .before .before .args in
     let end : c .before .loop .i ≡ a .t1 .count = omega arith in
     c .before .loop .inv .1 ∙ ap (λ (n : ℕ). column n (row-at (a .t1) (a .t2) (a .touched) (a .old .now) (a .rows .now))) end
 

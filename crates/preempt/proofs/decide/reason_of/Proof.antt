@@ -10,13 +10,13 @@ returns : tie.Need-returns
 unfolding reason
 returns c =
     let a = c .before .before .before .args in
-    rw (le-ltb (a .low .priority) (a .high .priority) (omega arith))
+    rw (le-ltb (a .low .threshold) (a .high .priority) (omega arith))
 
 returns-2 : tie.Need-returns-2
 unfolding reason
 returns-2 c =
     let a = c .before .before .before .before .args in
-    rw (lt-ltb (a .low .priority) (a .high .priority) (omega arith), c .if2 .taken)
+    rw (lt-ltb (a .low .threshold) (a .high .priority) (omega arith), c .if2 .taken)
 
 timing-of-requires : tie.Need-timing-of-requires
 timing-of-requires c κs = search needs
@@ -25,7 +25,7 @@ returns-3 : tie.Need-returns-3
 unfolding reason
 returns-3 c =
     let a = c .before .before .before .before .before .args in
-    rw (lt-ltb (a .low .priority) (a .high .priority) (omega arith), c .before .if2 .left, c .timing-of .ensures)
+    rw (lt-ltb (a .low .threshold) (a .high .priority) (omega arith), c .before .if2 .left, c .timing-of .ensures)
 
 pub reason-of-spec : {M : Type 1} → statement M
 reason-of-spec = tie.close (tie.spec returns returns-2 timing-of-requires returns-3)

@@ -24,11 +24,11 @@ placed periods barred lower upper count i low here =
     ap (λ (t : Task). rowFrom count (λ j. mayPreempt (getD periods i 0) (bitAt (getD barred i 0) j) t (upper j))) here
 
 abbrev Inv-loop : tie.InvT-loop
-Inv-loop transactions priorities offsets jitters responses periods barred count rows₀ i₀ rows i =
-    (i ≤ count) × (rows ≡ column i (row-at periods barred (lowerAt transactions offsets responses priorities) (upperAt transactions priorities offsets jitters) count))
+Inv-loop transactions priorities offsets jitters responses thresholds periods barred count rows₀ i₀ rows i =
+    (i ≤ count) × (rows ≡ column i (row-at periods barred (lowerAt transactions offsets responses thresholds) (upperAt transactions priorities offsets jitters) count))
 
 abbrev μ-loop : tie.MeasureT-loop
-μ-loop transactions priorities offsets jitters responses periods barred count rows₀ i₀ rows i = count - i
+μ-loop transactions priorities offsets jitters responses thresholds periods barred count rows₀ i₀ rows i = count - i
 
 loop-holds : tie.Need-loop-holds Inv-loop μ-loop
 loop-holds c = (omega arith, column-none _)
@@ -68,7 +68,7 @@ loop-again c =
     let a = c .before .before .before .before .before .before .args in
     let s = c .before .before .before .before .before .loop in
     let low = c .before .before .before .lower-at in
-    let lower : ℕ → Task = lowerAt (a .transactions .now) (a .offsets .now) (a .responses .now) (a .priorities .now) in
+    let lower : ℕ → Task = lowerAt (a .transactions .now) (a .offsets .now) (a .responses .now) (a .thresholds .now) in
     let upper : ℕ → Task = upperAt (a .transactions .now) (a .priorities .now) (a .offsets .now) (a .jitters .now) in
     let here = c .row .ensures ∙ placed (a .periods .now) (a .barred .now) lower upper (a .count) (s .i) (low .result) (low .ensures) in
     (omega arith, column-filled (s .i) (row-at (a .periods .now) (a .barred .now) lower upper (a .count)) (s .rows) (c .row .result) (omega arith) (s .inv .1) here)
@@ -77,7 +77,7 @@ returns : tie.Need-returns Inv-loop μ-loop
 unfolding mapFrom column
 returns c =
     let a = c .before .before .args in
-    let lower : ℕ → Task = lowerAt (a .transactions .now) (a .offsets .now) (a .responses .now) (a .priorities .now) in
+    let lower : ℕ → Task = lowerAt (a .transactions .now) (a .offsets .now) (a .responses .now) (a .thresholds .now) in
     let upper : ℕ → Task = upperAt (a .transactions .now) (a .priorities .now) (a .offsets .now) (a .jitters .now) in
     let end : c .before .loop .i ≡ a .count = omega arith in
     c .before .loop .inv .1 ∙ ap (λ (n : ℕ). column n (row-at (a .periods .now) (a .barred .now) lower upper (a .count))) end

@@ -22,14 +22,14 @@ read-barred-requires c κs =
 
 map-of-requires : tie.Need-map-of-requires
 map-of-requires c κs =
-    let read = c .before .before .before .before .before .before .before .before .before .before .before .before in
+    let read = c .before .before .before .before .before .before .before .before .before .before .before .before .before in
     let start = read .before .before in
     omega (arith, read .read-tasks .ensures .count, shape (start .args .image .now) (read .before .shared-slice-known .given) (start .pre) .few-tasks)
 
 returns : tie.Need-returns
 returns c =
-    let barred = c .before .before .before .before .before .before .before .before .before .read-barred in
-    let read = c .before .before .before .before .before .before .before .before .before .before .before .before .before in
+    let barred = c .before .before .before .before .before .before .before .before .before .before .read-barred in
+    let read = c .before .before .before .before .before .before .before .before .before .before .before .before .before .before in
     let start = read .before .before in
     let tasks = read .read-tasks in
     let sides = decidedOn (tasks .result .periods) (barred .result) (lowerIn (tasks .result)) (upperIn (tasks .result)) in

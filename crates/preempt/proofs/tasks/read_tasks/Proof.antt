@@ -100,6 +100,12 @@ mul-tasks-7 c = search needs
 element-write-tasks-7 : tie.Need-element-write-tasks-7 Inv-loop μ-loop
 element-write-tasks-7 c = search needs
 
+mul-tasks-8 : tie.Need-mul-tasks-8 Inv-loop μ-loop
+mul-tasks-8 c = search needs
+
+element-write-tasks-8 : tie.Need-element-write-tasks-8 Inv-loop μ-loop
+element-write-tasks-8 c = search needs
+
 add-i : tie.Need-add-i Inv-loop μ-loop
 add-i c = search needs
 
@@ -153,6 +159,8 @@ read-tasks-spec =
     element-write-tasks-6
     mul-tasks-7
     element-write-tasks-7
+    mul-tasks-8
+    element-write-tasks-8
     add-i
     loop-less
     loop-again

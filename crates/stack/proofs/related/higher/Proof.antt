@@ -1,4 +1,4 @@
--- The loop's invariant: of the places passed the set holds those of higher priority.
+-- The loop's invariant: of the places passed the set holds those whose priority is above the threshold.
 use Prim.Native.Nat.{_-_}
 use Rattle.stack.specs.Related.{isHigher}
 use Rattle.preempt.proofs.Choosing.{Chosen, chosen-none, chosen-more, chosen-all}
@@ -8,10 +8,10 @@ use Rattle.stack.proofs.related.higher.Statement.{statement}
 use Rattle.stack.proofs.related.higher.Tie as tie
 
 abbrev Inv-loop : tie.InvT-loop
-Inv-loop priorities count priority set₀ place₀ set place = Chosen (isHigher priorities priority) count place set
+Inv-loop priorities count threshold set₀ place₀ set place = Chosen (isHigher priorities threshold) count place set
 
 abbrev μ-loop : tie.MeasureT-loop
-μ-loop priorities count priority set₀ place₀ set place = count - place
+μ-loop priorities count threshold set₀ place₀ set place = count - place
 
 loop-holds : tie.Need-loop-holds Inv-loop μ-loop
 loop-holds c = chosen-none

@@ -9,10 +9,10 @@ use Rattle.stack.proofs.related.related_rows.Statement.{statement}
 use Rattle.stack.proofs.related.related_rows.Tie as tie
 
 abbrev Inv-loop : tie.InvT-loop
-Inv-loop priorities map count rows₀ place₀ rows place = (place ≤ count) × RowsBelow count priorities map rows place
+Inv-loop thresholds priorities map count rows₀ place₀ rows place = (place ≤ count) × RowsBelow count thresholds priorities map rows place
 
 abbrev μ-loop : tie.MeasureT-loop
-μ-loop priorities map count rows₀ place₀ rows place = count - place
+μ-loop thresholds priorities map count rows₀ place₀ rows place = count - place
 
 loop-holds : tie.Need-loop-holds Inv-loop μ-loop
 loop-holds c = (omega arith, rows-none refl (zeros 64))
