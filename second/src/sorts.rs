@@ -18,6 +18,8 @@ enum Sort {
     CellChangedByPeriod,
     OnlyPeriodChanged,
     JitterRewritten,
+    OnlyThresholdChanged,
+    ThresholdRewritten,
     PairTakenOut,
     PairPutIn,
     TaskMoved,
@@ -30,12 +32,14 @@ enum Sort {
 }
 
 /// Every sort that a comparison is to meet.
-const SORTS: [Sort; 18] = [
+const SORTS: [Sort; 20] = [
     Sort::UnchangedPutBack,
     Sort::PeriodChanged,
     Sort::CellChangedByPeriod,
     Sort::OnlyPeriodChanged,
     Sort::JitterRewritten,
+    Sort::OnlyThresholdChanged,
+    Sort::ThresholdRewritten,
     Sort::PairTakenOut,
     Sort::PairPutIn,
     Sort::TaskMoved,
@@ -62,6 +66,10 @@ impl Sort {
             Sort::JitterRewritten => {
                 "a missing jitter and the period written for it exchanged".into()
             }
+            Sort::OnlyThresholdChanged => "nothing but a threshold changed".into(),
+            Sort::ThresholdRewritten => {
+                "a threshold of 0 and the priority written for it exchanged".into()
+            }
             Sort::PairTakenOut => "a pair taken out".into(),
             Sort::PairPutIn => "a pair put in".into(),
             Sort::TaskMoved => "a task moved by another's coming".into(),
@@ -85,6 +93,8 @@ impl Sort {
             Sort::CellChangedByPeriod => fits && call.changes_a_cell_by_period(),
             Sort::OnlyPeriodChanged => fits && call.changes_nothing_but_a_period(),
             Sort::JitterRewritten => fits && call.rewrites_a_jitter(),
+            Sort::OnlyThresholdChanged => fits && call.changes_nothing_but_a_threshold(),
+            Sort::ThresholdRewritten => fits && call.rewrites_a_threshold(),
             Sort::PairTakenOut => fits && has_further_pair(&call.base, &call.outcome),
             Sort::PairPutIn => fits && has_further_pair(&call.outcome, &call.base),
             Sort::TaskMoved => fits && call.moves_a_task(),
@@ -216,6 +226,23 @@ impl Tried {
     fn rewrites_a_jitter(&self) -> bool {
         let rewritten = self.base.jitters_rewritten();
         let is_rewritten = |new: &Task| rewritten.contains(new) && !self.has_other_period(new);
+        self.outcome.tasks.iter().any(is_rewritten)
+    }
+
+    /// Whether the patch is the two records of a task whose threshold alone is read as another.
+    fn changes_nothing_but_a_threshold(&self) -> bool {
+        let has_other_threshold = |old: &Task, new: &Task| {
+            let threshold = new.threshold;
+            Task { threshold, ..*old } == *new && old.read_threshold() != new.read_threshold()
+        };
+        let mut tasks = self.base.tasks.iter().zip(&self.outcome.tasks);
+        self.patch.len() == 2 && tasks.any(|(old, new)| has_other_threshold(old, new))
+    }
+
+    /// Whether a task changes in the byte of its threshold alone, and not in what it is read as.
+    fn rewrites_a_threshold(&self) -> bool {
+        let rewritten = self.base.thresholds_rewritten();
+        let is_rewritten = |new: &Task| rewritten.contains(new);
         self.outcome.tasks.iter().any(is_rewritten)
     }
 

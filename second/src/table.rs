@@ -1,6 +1,8 @@
 //! What a table's records say together.
 
-use crate::records::{Pair, Record, Task, Transaction, MISSING_JITTER, PAIR, TASK, TRANSACTION};
+use crate::records::{
+    Pair, Record, Task, Transaction, MISSING_JITTER, PAIR, TASK, THRESHOLD_OF_PRIORITY, TRANSACTION,
+};
 
 /// The transactions, tasks and pairs of a table, each in table order.
 #[derive(Clone, PartialEq, Eq, Debug, Default)]
@@ -50,6 +52,21 @@ impl Table {
                 _ => return None,
             };
             Some(Task { jitter, ..*task })
+        };
+        self.tasks.iter().filter_map(rewritten).collect()
+    }
+
+    /// The tasks whose threshold can be written otherwise and read alike, each written so: as the priority
+    /// where it is 0, as 0 where it is the priority.
+    pub fn thresholds_rewritten(&self) -> Vec<Task> {
+        let rewritten = |task: &Task| {
+            let priority = u8::try_from(task.priority).ok()?;
+            let threshold = match task.threshold {
+                THRESHOLD_OF_PRIORITY => priority,
+                written if written == priority => THRESHOLD_OF_PRIORITY,
+                _ => return None,
+            };
+            Some(Task { threshold, ..*task })
         };
         self.tasks.iter().filter_map(rewritten).collect()
     }

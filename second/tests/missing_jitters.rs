@@ -1,93 +1,22 @@
 //! Missing jitters in the compared streams: in a third of the tasks, and in patches that tell how they are read.
 
-use second::afresh::Afresh;
+mod common;
+
+use common::streams::{absent_record, outcome_of, Stream, COMPARED, PATCH_CALLS, VERDICTS};
 use second::blocks::records_in;
-use second::generate::{Generator, Wanted};
-use second::patch_call::patch_call;
 use second::preempt::true_map;
-use second::records::{Record, Task, MISSING_JITTER, TASK};
-use second::stream::{Call, Case};
+use second::records::{Task, MISSING_JITTER, TASK};
+use second::stream::Case;
 use second::table::Table;
-use second::verdict::records_of_table;
-
-/// A stream by what `second generate` takes for it.
-#[derive(Clone, Copy)]
-struct Stream {
-    seed: u64,
-    letter: char,
-    count: usize,
-}
-
-const fn stream(seed: u64, letter: char, count: usize) -> Stream {
-    Stream {
-        seed,
-        letter,
-        count,
-    }
-}
-
-const PATCH_CALLS: Stream = stream(4, 'A', 3000);
-
-/// The streams of every letter whose calls read a table for its map, its bounds or its reasons.
-const COMPARED: [Stream; 6] = [
-    stream(2, 'M', 2000),
-    stream(3, 'B', 3000),
-    PATCH_CALLS,
-    stream(7, 'L', 840),
-    stream(6, 'R', 200),
-    stream(8, 'W', 1200),
-];
-
-impl Stream {
-    fn cases(self) -> impl Iterator<Item = Case> {
-        let mut generator = Generator::from_seed(self.seed);
-        let wanted = Wanted::from_letter(self.letter as u8).expect("a letter of the stream");
-        (0..self.count).map(move |_| generator.next_wanted(wanted))
-    }
-
-    /// The tables that are accepted, and what accepted patches make of them.
-    fn tables(self) -> impl Iterator<Item = Table> {
-        let images = self.cases().flat_map(|case| match case.call {
-            Call::Patch => outcome_of(&case).into_iter().chain([case.image]).collect(),
-            Call::Run => standing_images(&case),
-            _ => vec![case.image],
-        });
-        images.filter_map(|image| Some(Table::read(&records_of_table(&image).ok()?)))
-    }
-}
-
-/// The image that an accepted patch call writes.
-fn outcome_of(case: &Case) -> Option<Vec<u8>> {
-    let (mut room, mut map) = (case.room.clone(), case.map_written.clone());
-    let given = patch_call(
-        &case.image,
-        &case.patch,
-        &case.map_read,
-        &mut room,
-        &mut map,
-    );
-    room.truncate(given.ok()?.length);
-    Some(room)
-}
-
-/// The images that stand at the start of a run and after each accepted step.
-fn standing_images(run: &Case) -> Vec<Vec<u8>> {
-    let mut afresh = Afresh::start(&run.image, &run.map_read).expect("a valid start");
-    let accepted = run.steps.iter().filter_map(|step| {
-        afresh.step(step).ok()?;
-        Some(afresh.standing().image)
-    });
-    [run.image.clone()].into_iter().chain(accepted).collect()
-}
 
 #[test]
 fn the_gate_compares_these_streams() {
     let gate = include_str!("../../.ci/run");
     let compares = |stream: &Stream| {
-        let (seed, letter, count) = (stream.seed, stream.letter, stream.count);
-        gate.contains(&format!("\n.ci/compare {seed} {letter} {count} "))
+        let (seed, letters, count) = (stream.seed, stream.letters, stream.count);
+        gate.contains(&format!("\n.ci/compare {seed} {letters} {count} "))
     };
-    assert!(COMPARED.iter().all(compares));
+    assert!(COMPARED.iter().chain([&VERDICTS]).all(compares));
 }
 
 #[test]
@@ -95,15 +24,8 @@ fn a_third_of_the_tasks_of_each_letter_have_no_jitter() {
     for stream in COMPARED {
         let tasks: Vec<Task> = stream.tables().flat_map(|table| table.tasks).collect();
         let missing = tasks.iter().filter(|task| task.jitter == MISSING_JITTER);
-        assert!(3 * missing.count() >= tasks.len(), "{}", stream.letter);
+        assert!(3 * missing.count() >= tasks.len(), "{}", stream.letters);
     }
-}
-
-/// The record that a patch call hands back with refusal 9.
-fn absent_record(case: &Case) -> Option<Record> {
-    let given = patch_call(&case.image, &case.patch, &[], &mut [], &mut []);
-    let offending = given.err()?.offending;
-    (!offending.is_empty()).then(|| Record::starting_at(offending, 0))
 }
 
 /// The jitters in a patch and in its base, where refusal 9 is for them alone and they are read alike.

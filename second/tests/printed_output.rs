@@ -92,7 +92,7 @@ fn cases_are_streams_of_runs() {
 #[test]
 fn sorts_are_counted_where_there_are_patch_calls() {
     let patch_calls = run(&["generate", "3", "A", "50"], &[]).stdout;
-    assert_eq!(printed(&["sorts"], &patch_calls).lines().count(), 18);
+    assert_eq!(printed(&["sorts"], &patch_calls).lines().count(), 20);
     let others = run(&["generate", "3", "TPMBRW", "50"], &[]).stdout;
     assert_eq!(printed(&["sorts"], &others), "");
 }

@@ -43,7 +43,7 @@ fn every_sort_is_met_by_the_generator() {
     assert_eq!(sorts.lines(), "");
     (0..3000).for_each(|_| sorts.count(&generator.next_case(Call::Patch)));
     let lines = sorts.lines();
-    assert_eq!(lines.lines().count(), 18);
+    assert_eq!(lines.lines().count(), 20);
     for line in lines.lines() {
         let count: usize = line.split(' ').next().unwrap().parse().unwrap();
         assert!(count >= 5, "{line}");
@@ -54,14 +54,24 @@ fn every_sort_is_met_by_the_generator() {
 const PERIOD_CHANGED: &str = "nothing but a period changed under a missing jitter";
 /// A patch in which a missing jitter is written out, or a written one left out, and read as before.
 const JITTER_REWRITTEN: &str = "a missing jitter and the period written for it exchanged";
+/// A patch in which the threshold of a task is read as another than before, and that is all.
+const THRESHOLD_CHANGED: &str = "nothing but a threshold changed";
+/// A patch in which a threshold of 0 is written out, or a written one made 0, and read as before.
+const THRESHOLD_REWRITTEN: &str = "a threshold of 0 and the priority written for it exchanged";
 
 #[test]
-fn patches_under_missing_jitters_are_met_often_where_the_library_is_compared() {
+fn patches_of_jitters_and_thresholds_are_met_often_where_the_library_is_compared() {
     let mut generator = Generator::from_seed(4);
     let mut sorts = Sorts::default();
     (0..3000).for_each(|_| sorts.count(&generator.next_case(Call::Patch)));
     let lines = sorts.lines();
-    for name in [PERIOD_CHANGED, JITTER_REWRITTEN] {
+    let names = [
+        PERIOD_CHANGED,
+        JITTER_REWRITTEN,
+        THRESHOLD_CHANGED,
+        THRESHOLD_REWRITTEN,
+    ];
+    for name in names {
         let count = lines.lines().find_map(|line| line.strip_suffix(name));
         let count: usize = count.unwrap().trim_end().parse().unwrap();
         assert!(count >= 20, "{count} {name}");
@@ -132,14 +142,16 @@ fn a_period_under_a_missing_jitter_is_told_where_nothing_else_changes() {
     assert_eq!(with_more(&[further_task]), [&[changed], &MAPS[..]].concat());
 }
 
+/// The sorts of the call that changes the second task of a table.
+fn from_to(old: Task, new: Task) -> Vec<String> {
+    let base = table(&[task(1, 1, 0, 0), old], &[]);
+    sorts_of(&call(&base, patch_image(&[old.record()], &[new.record()])))
+}
+
 #[test]
 fn a_jitter_is_told_that_is_written_otherwise_and_read_alike() {
     let missing = unmeasured(2, 2, 0);
     let with_jitter = |jitter| Task { jitter, ..missing };
-    let from_to = |old: Task, new: Task| {
-        let base = table(&[task(1, 1, 0, 0), old], &[]);
-        sorts_of(&call(&base, patch_image(&[old.record()], &[new.record()])))
-    };
     let told = [&[JITTER_REWRITTEN], &MAPS[..]].concat();
     let written = with_jitter(PERIOD);
     assert_eq!(from_to(missing, written), told);
@@ -167,6 +179,43 @@ fn a_jitter_written_as_the_period_that_was_is_not_read_alike() {
     let base = table(&[missing], &[]);
     let taken_out = [base.transactions[0].record(), missing.record()];
     let patch = patch_image(&taken_out, &[longer.record(), written.record()]);
+    assert_eq!(sorts_of(&call(&base, patch)), MAPS);
+}
+
+#[test]
+fn a_threshold_is_told_that_is_written_otherwise_and_read_alike() {
+    let plain = task(2, 7, 0, 0);
+    let written = with_threshold(7, plain);
+    let told = [&[THRESHOLD_REWRITTEN], &MAPS[..]].concat();
+    assert_eq!(from_to(plain, written), told);
+    assert_eq!(from_to(written, plain), told);
+    let larger = Task {
+        stack: 2,
+        ..written
+    };
+    assert_eq!(from_to(plain, larger), MAPS);
+    let more_urgent = Task {
+        priority: 8,
+        ..with_threshold(8, plain)
+    };
+    assert_eq!(from_to(plain, more_urgent), MAPS);
+}
+
+#[test]
+fn a_threshold_is_told_that_is_read_as_another_where_nothing_else_changes() {
+    let [plain, written, higher] =
+        [0, 7, 8].map(|threshold| with_threshold(threshold, task(2, 7, 0, 0)));
+    let told = [&[THRESHOLD_CHANGED], &MAPS[..]].concat();
+    for old in [plain, written] {
+        assert_eq!(from_to(old, higher), told);
+        assert_eq!(from_to(higher, old), told);
+    }
+    assert_eq!(from_to(higher, with_threshold(255, plain)), told);
+    let larger = Task { stack: 2, ..higher };
+    assert_eq!(from_to(plain, larger), MAPS);
+    let base = table(&[plain], &[]);
+    let further_task = task(3, 3, 0, 0).record();
+    let patch = patch_image(&[plain.record()], &[higher.record(), further_task]);
     assert_eq!(sorts_of(&call(&base, patch)), MAPS);
 }
 

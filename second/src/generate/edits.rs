@@ -3,14 +3,17 @@
 use crate::generate::misfits::{unused_number, unused_record};
 use crate::generate::random::Random;
 use crate::generate::task_values::draw_lone_task;
+use crate::generate::thresholds::draw_threshold;
 use crate::record_faults::MOST_PERIOD;
-use crate::records::{Pair, PairSort, Transaction, PAIR, TASK, TRANSACTION};
+use crate::records::{Pair, PairSort, Task, Transaction, PAIR, TASK, TRANSACTION};
 use crate::table::Table;
+
+/// A change to a table, which may leave its records out of order.
+type Edit = fn(&mut Random, &mut Table);
 
 /// The table after one change, or as it was where the change has nothing to work on.
 pub fn edited(random: &mut Random, table: &Table) -> Table {
-    let mut new = table.clone();
-    let edit = random.pick(&[
+    let edit = random.pick::<Edit>(&[
         put_in_task,
         put_in_task,
         put_in_task,
@@ -19,6 +22,8 @@ pub fn edited(random: &mut Random, table: &Table) -> Table {
         change_task,
         change_task,
         rewrite_jitter,
+        change_threshold,
+        rewrite_threshold,
         put_in_transaction,
         take_out_transaction,
         change_period,
@@ -29,14 +34,24 @@ pub fn edited(random: &mut Random, table: &Table) -> Table {
         take_out_pair,
         change_pair,
     ]);
-    edit(random, &mut new);
-    Table::read(&new.records())
+    after(edit, random, table)
 }
 
 /// The table with one period changed and nothing else.
 pub fn with_other_period(random: &mut Random, table: &Table) -> Table {
+    after(change_period, random, table)
+}
+
+/// The table with one threshold changed and nothing else, in what it is read as or in its byte alone.
+pub fn with_other_threshold(random: &mut Random, table: &Table) -> Table {
+    let edit = random.pick::<Edit>(&[change_threshold, rewrite_threshold]);
+    after(edit, random, table)
+}
+
+/// The table after this change, in table order.
+fn after(edit: Edit, random: &mut Random, table: &Table) -> Table {
     let mut new = table.clone();
-    change_period(random, &mut new);
+    edit(random, &mut new);
     Table::read(&new.records())
 }
 
@@ -47,7 +62,8 @@ fn put_in_task(random: &mut Random, table: &mut Table) {
             false => lowest_unused_id(table),
         };
         let transaction = random.pick(&table.transactions);
-        table.tasks.push(draw_lone_task(random, id, &transaction));
+        let task = draw_lone_task(random, id, &transaction, &table.tasks);
+        table.tasks.push(task);
     }
 }
 
@@ -78,15 +94,41 @@ fn change_task(random: &mut Random, table: &mut Table) {
         let place = random.rank(table.tasks.len());
         let transaction = random.pick(&table.transactions);
         let id = table.tasks[place].id;
-        table.tasks[place] = draw_lone_task(random, id, &transaction);
+        table.tasks[place] = draw_lone_task(random, id, &transaction, &table.tasks);
     }
 }
 
 /// Changes the bytes of a jitter and not what it is read as.
 fn rewrite_jitter(random: &mut Random, table: &mut Table) {
     let rewritten = table.jitters_rewritten();
-    if !rewritten.is_empty() {
-        let new = random.pick(&rewritten);
+    replace_by_one_of(random, table, &rewritten);
+}
+
+/// Changes what the threshold of a task is read as, where its priority leaves a choice.
+fn change_threshold(random: &mut Random, table: &mut Table) {
+    if table.tasks.is_empty() {
+        return;
+    }
+    let old = random.pick(&table.tasks);
+    let drawn = (0..20).map(|_| Task {
+        threshold: draw_threshold(random, old.priority, &table.tasks),
+        ..old
+    });
+    let mut others = drawn.filter(|new| new.read_threshold() != old.read_threshold());
+    let new = others.next();
+    replace_by_one_of(random, table, new.as_slice());
+}
+
+/// Changes the byte of a threshold and not what it is read as.
+fn rewrite_threshold(random: &mut Random, table: &mut Table) {
+    let rewritten = table.thresholds_rewritten();
+    replace_by_one_of(random, table, &rewritten);
+}
+
+/// Puts one of these tasks, where there are any, in the place of the task with its id.
+fn replace_by_one_of(random: &mut Random, table: &mut Table, tasks: &[Task]) {
+    if !tasks.is_empty() {
+        let new = random.pick(tasks);
         table.tasks.retain(|task| task.id != new.id);
         table.tasks.push(new);
     }

@@ -6,7 +6,7 @@ use crate::generate::random::Random;
 use crate::record_faults::{MOST_OFFSET, MOST_PERIOD, MOST_PRIORITY, MOST_RESPONSE};
 use crate::records::{
     Record, Task, JITTER_AT, MISSING_JITTER, NUMBER_AT, OFFSET_AT, PAIR, PAIR_SORT_AT, PERIOD_AT,
-    PRIORITY_AT, RESPONSE_AT, SECOND_AT, STACK_AT, TASK, TRANSACTION,
+    PRIORITY_AT, RESPONSE_AT, SECOND_AT, STACK_AT, TASK, THRESHOLD_AT, TRANSACTION,
 };
 
 /// What is written where in a record of some kind.
@@ -17,10 +17,12 @@ enum Fault {
     Long(usize, u32),
     OffsetTooLarge,
     ResponseBelowOffset,
+    LowestThreshold,
+    ThresholdJustBelowPriority,
     OneTaskTwice,
 }
 
-/// Every range, broken at each end that can be broken.
+/// Every range but the thresholds', broken at each end that can be broken.
 const FAULTS: [(u8, Fault); 20] = [
     (TRANSACTION, Fault::Short(NUMBER_AT, 0)),
     (TRANSACTION, Fault::Long(PERIOD_AT, 0)),
@@ -44,9 +46,18 @@ const FAULTS: [(u8, Fault); 20] = [
     (PAIR, Fault::OneTaskTwice),
 ];
 
+/// The range of thresholds, broken at both ends of what is above 0 and below the priority.
+const THRESHOLD_FAULTS: [(u8, Fault); 2] = [
+    (TASK, Fault::LowestThreshold),
+    (TASK, Fault::ThresholdJustBelowPriority),
+];
+
 /// Puts one field of one record out of its range, if there is a record that has the field.
 pub fn break_a_range(random: &mut Random, records: &mut [Record]) {
-    let (kind, fault) = random.pick(&FAULTS);
+    let (kind, fault) = match random.one_in(3) {
+        true => random.pick(&THRESHOLD_FAULTS),
+        false => random.pick(&FAULTS),
+    };
     let of_kind = ranks_of(records, kind);
     if of_kind.is_empty() {
         return;
@@ -72,9 +83,23 @@ fn apply(fault: Fault, record: &mut Record) {
             put_u32(&mut record.0, OFFSET_AT, offset);
             put_u32(&mut record.0, RESPONSE_AT, offset - 1);
         }
+        Fault::LowestThreshold => {
+            raise_priority_to_2(record);
+            record.0[THRESHOLD_AT] = 1;
+        }
+        Fault::ThresholdJustBelowPriority => {
+            raise_priority_to_2(record);
+            record.0[THRESHOLD_AT] = (Task::read(record).priority - 1) as u8;
+        }
         Fault::OneTaskTwice => {
             let first = record.number();
             put_u16(&mut record.0, SECOND_AT, first);
         }
     }
+}
+
+/// Gives a task of priority 1 the next one, so that some threshold is below it.
+fn raise_priority_to_2(record: &mut Record) {
+    let priority = Task::read(record).priority.max(2);
+    put_u16(&mut record.0, PRIORITY_AT, priority);
 }

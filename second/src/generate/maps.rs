@@ -3,6 +3,7 @@
 use crate::generate::random::Random;
 use crate::generate::task_values::MANY_TASKS;
 use crate::preempt::{true_map, MAP_ROWS};
+use crate::records::THRESHOLD_OF_PRIORITY;
 use crate::table::Table;
 
 /// More priorities than this are many.
@@ -37,14 +38,23 @@ fn thin_map(random: &mut Random) -> Vec<u64> {
 }
 
 fn any_map(random: &mut Random, table: &Table) -> Vec<u64> {
-    match random.rank(10) {
+    match random.rank(11) {
         0..=2 => true_map(table).to_vec(),
         3 => true_map_and_more(random, table),
-        4..=6 => (0..MAP_ROWS).map(|_| random.bits()).collect(),
-        7 => thin_map(random),
-        8 => vec![u64::MAX; MAP_ROWS],
+        4 => map_without_thresholds(table),
+        5..=7 => (0..MAP_ROWS).map(|_| random.bits()).collect(),
+        8 => thin_map(random),
+        9 => vec![u64::MAX; MAP_ROWS],
         _ => vec![0; MAP_ROWS],
     }
+}
+
+/// The map that the table would have if every threshold were 0.
+fn map_without_thresholds(table: &Table) -> Vec<u64> {
+    let mut freed = table.clone();
+    let tasks = freed.tasks.iter_mut();
+    tasks.for_each(|task| task.threshold = THRESHOLD_OF_PRIORITY);
+    true_map(&freed).to_vec()
 }
 
 /// A map of 64 rows with about so many of a hundred cells set.

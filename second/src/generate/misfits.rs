@@ -96,7 +96,7 @@ pub fn unused_record(random: &mut Random, records: &[Record], kind: u8) -> Recor
         }
         TASK => {
             let transaction = some_transaction(random, &table);
-            draw_lone_task(random, number, &transaction).record()
+            draw_lone_task(random, number, &transaction, &table.tasks).record()
         }
         _ => unused_pair(random, &table, number).record(),
     }

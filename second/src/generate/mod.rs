@@ -18,6 +18,7 @@ mod rooms;
 mod run_cases;
 pub mod tables;
 mod task_values;
+mod thresholds;
 mod verdict_cases;
 
 use std::io::{self, Write};

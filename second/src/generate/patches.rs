@@ -1,6 +1,6 @@
 //! Patches that fit a base, and patches that fail on it.
 
-use crate::generate::edits::{edited, with_other_period};
+use crate::generate::edits::{edited, with_other_period, with_other_threshold};
 use crate::generate::misfits::{misfit_a_record, one_too_many, unused_record};
 use crate::generate::random::Random;
 use crate::generate::tables::any_table;
@@ -12,12 +12,13 @@ use crate::table::Table;
 
 /// A patch that the base accepts.
 pub fn fitting_patch(random: &mut Random, base: &Table) -> Vec<Record> {
-    let target = match random.rank(20) {
+    let target = match random.rank(22) {
         0 => base.clone(),
         1 => Table::default(),
         2 => any_table(random),
         3..=12 if base.tasks.is_empty() => any_table(random),
         13 | 14 => with_other_period(random, base),
+        15 | 16 => with_other_threshold(random, base),
         _ => (0..random.count(1, 4)).fold(base.clone(), |table, _| edited(random, &table)),
     };
     let put_back = match random.one_in(3) {
@@ -52,10 +53,13 @@ pub fn absent_record(random: &mut Random, base: &[Record]) -> Vec<Record> {
     let table = Table::read(base);
     let mut patch = fitting_patch(random, &table);
     let kind = random.pick(&[TRANSACTION, TASK, PAIR]);
-    let rewritten = table.jitters_rewritten();
-    let absent = match random.rank(3) {
-        0 if !rewritten.is_empty() => random.pick(&rewritten).record(),
-        0 | 1 if !base.is_empty() => {
+    let rewritten = match random.one_in(2) {
+        true => table.jitters_rewritten(),
+        false => table.thresholds_rewritten(),
+    };
+    let absent = match random.rank(4) {
+        0 | 1 if !rewritten.is_empty() => random.pick(&rewritten).record(),
+        0..=2 if !base.is_empty() => {
             let present = base[random.low_or_high_rank(base.len())];
             slightly_changed(random, present)
         }

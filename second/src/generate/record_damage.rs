@@ -4,7 +4,7 @@ use crate::blocks::Form;
 use crate::generate::field_faults::break_a_range;
 use crate::generate::misfits::{misfit_a_record, one_too_many};
 use crate::generate::random::Random;
-use crate::records::{Record, KIND_AT, PUT_IN, STACK_AT, TAKEN_OUT, WAY_AT};
+use crate::records::{Record, KIND_AT, PUT_IN, STACK_AT, TAKEN_OUT, TASK, THRESHOLD_AT, WAY_AT};
 
 /// Does one sort of damage to the records, where they leave room for it.
 pub fn damage_records(random: &mut Random, form: Form, records: &mut Vec<Record>) {
@@ -36,7 +36,19 @@ fn some_record<'records>(
 fn stray_byte(random: &mut Random, records: &mut [Record]) {
     let record = some_record(random, records);
     let zeros: Vec<usize> = (1..WAY_AT).filter(|at| record.0[*at] == 0).collect();
-    record.0[random.pick(&zeros)] = random.byte_above_zero();
+    let at = match random.one_in(3) {
+        true => byte_near_threshold(record),
+        false => random.pick(&zeros),
+    };
+    record.0[at] = random.byte_above_zero();
+}
+
+/// Where a task has its threshold in a record that is none, and the byte behind it in a task's.
+fn byte_near_threshold(record: &Record) -> usize {
+    match record.kind() {
+        TASK => THRESHOLD_AT + 1,
+        _ => THRESHOLD_AT,
+    }
 }
 
 fn unknown_kind(random: &mut Random, records: &mut [Record]) {

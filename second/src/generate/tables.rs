@@ -4,6 +4,7 @@ use std::collections::{BTreeMap, BTreeSet};
 
 use crate::generate::random::Random;
 use crate::generate::task_values::{draw_period, draw_task, sharpen, Style};
+use crate::generate::thresholds::draw_thresholds;
 use crate::records::{Pair, PairSort, Transaction};
 use crate::table::Table;
 
@@ -112,6 +113,7 @@ pub fn table_of_style(random: &mut Random, shape: Shape, style: &Style) -> Table
         tasks,
         pairs,
     };
+    draw_thresholds(random, &mut table);
     sharpen(random, &mut table);
     table
 }

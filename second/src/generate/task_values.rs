@@ -1,9 +1,10 @@
 //! The values of transactions and tasks: at the ends of their ranges, and at the edges of the decision.
 
 use crate::generate::random::Random;
+use crate::generate::thresholds::draw_lone_threshold;
 use crate::preempt::distance;
 use crate::record_faults::{MOST_PERIOD, MOST_PRIORITY, MOST_RESPONSE};
-use crate::records::{Task, Transaction, MISSING_JITTER};
+use crate::records::{Task, Transaction, MISSING_JITTER, THRESHOLD_OF_PRIORITY};
 use crate::table::Table;
 
 /// What the tasks of one table have in common.
@@ -96,7 +97,7 @@ pub fn draw_period(random: &mut Random, style: &Style) -> u32 {
     }
 }
 
-/// A task of this transaction with every value in its range.
+/// A task of this transaction with every value in its range, and its priority as its threshold.
 pub fn draw_task(random: &mut Random, style: &Style, id: u16, transaction: &Transaction) -> Task {
     let offset = draw_offset(random, style.times, transaction.period);
     Task {
@@ -107,14 +108,23 @@ pub fn draw_task(random: &mut Random, style: &Style, id: u16, transaction: &Tran
         jitter: draw_jitter(random, style.times, transaction.period),
         response: draw_response(random, style.times, offset, transaction.period),
         stack: random.pick(&style.stacks),
-        threshold: 0,
+        threshold: THRESHOLD_OF_PRIORITY,
     }
 }
 
-/// A task in a table of its own style.
-pub fn draw_lone_task(random: &mut Random, id: u16, transaction: &Transaction) -> Task {
+/// A task of its own style that is put among these others.
+pub fn draw_lone_task(
+    random: &mut Random,
+    id: u16,
+    transaction: &Transaction,
+    others: &[Task],
+) -> Task {
     let style = Style::draw(random, 1);
-    draw_task(random, &style, id, transaction)
+    let task = draw_task(random, &style, id, transaction);
+    Task {
+        threshold: draw_lone_threshold(random, task.priority, others),
+        ..task
+    }
 }
 
 fn draw_offset(random: &mut Random, times: Times, period: u32) -> u32 {
@@ -165,7 +175,7 @@ fn draw_response(random: &mut Random, times: Times, offset: u32, period: u32) ->
 
 /// Sets some responses and written jitters to the last value that says no or the first that says yes.
 pub fn sharpen(random: &mut Random, table: &mut Table) {
-    for _ in 0..table.tasks.len() / 2 {
+    for _ in 0..table.tasks.len() {
         let lower = random.rank(table.tasks.len());
         let upper = random.rank(table.tasks.len());
         let (below, above) = (table.tasks[lower], table.tasks[upper]);
@@ -185,6 +195,6 @@ pub fn sharpen(random: &mut Random, table: &mut Table) {
 /// Whether the two tasks leave their pair to written times; a missing jitter says yes at every distance.
 fn written_times_decide(below: &Task, above: &Task) -> bool {
     below.transaction == above.transaction
-        && below.priority < above.priority
+        && below.yields_to(above)
         && above.jitter != MISSING_JITTER
 }

@@ -2,6 +2,8 @@
 
 #![allow(dead_code)]
 
+pub mod streams;
+
 use second::blocks::{image_of, patch_image, Form};
 use second::bound_call::{bound_call, Bounds};
 use second::generate::random::Random;
