@@ -1,9 +1,9 @@
-//! The six tasks of figure 2 as a table, with their jitters written or missing.
+//! The six tasks of figure 2 as a table, with their jitters written or missing, and with a threshold.
 
-use crate::records::{Task, Transaction, MISSING_JITTER};
+use crate::records::{Task, Transaction, MISSING_JITTER, THRESHOLD_OF_PRIORITY};
 use crate::table::Table;
 
-/// Figure 2 with period 10,000 in both transactions and every jitter written as 0.
+/// Figure 2 with period 10,000 in both transactions, every jitter written as 0 and every threshold 0.
 pub fn figure2() -> Table {
     let transaction = |number| Transaction {
         number,
@@ -32,6 +32,13 @@ pub fn unmeasured() -> Table {
     table
 }
 
+/// Figure 2 with a threshold of 3 for task 12, so that the tasks of priority 3 do not preempt it.
+pub fn thresholds() -> Table {
+    let mut table = figure2();
+    table.tasks[1].threshold = 3;
+    table
+}
+
 /// A task of figure 2, whose id starts with its transaction's number.
 fn task(id: u16, offset: u32, priority: u16, response: u32, stack: u16) -> Task {
     Task {
@@ -42,6 +49,6 @@ fn task(id: u16, offset: u32, priority: u16, response: u32, stack: u16) -> Task 
         jitter: 0,
         response,
         stack,
-        threshold: 0,
+        threshold: THRESHOLD_OF_PRIORITY,
     }
 }

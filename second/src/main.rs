@@ -8,7 +8,7 @@ use std::process::ExitCode;
 use second::answer::answer;
 use second::blocks::{image_of, Form, BLOCK_BYTES};
 use second::cable::cancelled;
-use second::figure2::{figure2, unmeasured};
+use second::figure2::{figure2, thresholds, unmeasured};
 use second::generate::{write_stream, Wanted};
 use second::heaviest::heaviest;
 use second::numbered_cases::{patch_of, runs_of};
@@ -19,7 +19,7 @@ use second::table::Table;
 
 const USAGE: &str =
     "usage: second bounds | reasons | generate SEED LETTERS COUNT | answer | sorts | figure2 \
-                     | unmeasured | heaviest | cancelled | patch NUMBER | case NUMBER \
+                     | unmeasured | thresholds | heaviest | cancelled | patch NUMBER | case NUMBER \
                      (LETTERS are some of T, P, M, B, A, R, W and L; NUMBER is 11, 12 or 13)";
 
 /// What the command line asks for.
@@ -62,6 +62,7 @@ fn command_from(words: &[&str]) -> Option<Command> {
         ["sorts"] => Some(Command::Sorts),
         ["figure2"] => Some(Command::Table(figure2())),
         ["unmeasured"] => Some(Command::Table(unmeasured())),
+        ["thresholds"] => Some(Command::Table(thresholds())),
         ["heaviest"] => Some(Command::Table(heaviest())),
         ["cancelled"] => Some(Command::Image(cancelled())),
         ["patch", number] => patch_of(number.parse().ok()?).map(Command::Image),

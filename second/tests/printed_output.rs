@@ -18,6 +18,10 @@ const FIGURE_2_REASONS: &str = "11 12 response\n12 23 transaction\n";
 const UNMEASURED: &str = "tasks 6\nchain 10: 11 12 23 13\npath 10\ntransactions 11\nlevels 10\n";
 const UNMEASURED_REASONS: &str = "11 12 jitter\n12 23 transaction\n23 13 transaction\n";
 
+/// No task of priority 3 nests in task 12: the chain is 4 + 3, the path 4 + 3 + 2.
+const THRESHOLDS: &str = "tasks 6\nchain 7: 11 23\npath 9\ntransactions 9\nlevels 10\n";
+const THRESHOLDS_REASONS: &str = "11 23 transaction\n";
+
 /// The commands that print what they say of one image, and read all of their input for it.
 const REPORTS: [&str; 2] = ["bounds", "reasons"];
 
@@ -65,6 +69,17 @@ fn figure_2_with_no_jitter_measured_is_the_example_and_the_command() {
     let bounds = include_str!("../../examples/unmeasured.txt");
     let reasons = include_str!("../../examples/unmeasured.reasons.txt");
     assert_eq!((bounds, reasons), (UNMEASURED, UNMEASURED_REASONS));
+}
+
+#[test]
+fn figure_2_with_a_threshold_is_the_example_and_the_command() {
+    let example = include_bytes!("../../examples/thresholds.tb");
+    assert_eq!(run(&["thresholds"], &[]).stdout, example);
+    assert_eq!(printed(&["bounds"], example), THRESHOLDS);
+    assert_eq!(printed(&["reasons"], example), THRESHOLDS_REASONS);
+    let bounds = include_str!("../../examples/thresholds.txt");
+    let reasons = include_str!("../../examples/thresholds.reasons.txt");
+    assert_eq!((bounds, reasons), (THRESHOLDS, THRESHOLDS_REASONS));
 }
 
 #[test]
