@@ -17,6 +17,23 @@
  * - An accepted call answers number 0 and place 0. A refused one answers the number and place of its refusal, all else is
  *   0, and nothing is written: every lent buffer is as it was.
  *
+ * Records are 32 bytes each, and their numbers are little-endian. Byte 0 is the kind; byte 31 is 0 in a table, and in a
+ * patch 0 where the record is taken out and 1 where it is put in. Bytes that are not named here are 0.
+ *
+ *   bytes   transaction, kind 1           task, kind 2                                   pair, kind 3
+ *    1                                                                                   0 one-way, 1 precedence
+ *    2-3    number, 1 to 65,535           id, 1 to 65,535                                first task
+ *    4-5                                  transaction                                    second task
+ *    6-7                                  priority, 1 to 255, larger is more urgent
+ *    8-11   period, 1 to 1,000,000,000    offset, 0 to 999,999,999, below the period
+ *   12-15                                 jitter, 0 to 1,000,000,000, or 4,294,967,295
+ *   16-19                                 response, from the offset to 2,000,000,000
+ *   20-21                                 stack, 1 to 65,535
+ *   22                                    threshold, from the priority to 255, or 0
+ *
+ * A jitter of 4,294,967,295 is missing, not measured, and is read as the period of the task's transaction. A threshold of 0
+ * is read as the task's priority. Once started, a task is preempted only by tasks of a priority above its threshold.
+ *
  * Refusals. Checks run in the order that each function names; each runs over the whole image before the next, and the
  * lowest place wins. Blocks and records are counted from 0 through the image.
  *
@@ -72,7 +89,7 @@ extern "C" {
 #define SIODLOMIL_REASON_RESPONSE 3    /* the low task may not yet have ended when the high one is activated again */
 
 /* Why it may not: the first of these rules that forbids it. */
-#define SIODLOMIL_REASON_PRIORITY 4 /* the high task has no higher priority; so a task with itself */
+#define SIODLOMIL_REASON_PRIORITY 4 /* the high task is not above the low one's threshold; so a task with itself */
 #define SIODLOMIL_REASON_PAIR 5     /* a pair record forbids it */
 #define SIODLOMIL_REASON_TIMING 6   /* neither jitter nor response reaches */
 
@@ -123,8 +140,8 @@ typedef struct siodlomil_offending_answer {
  *        preempted by the task at place j; a task's place is its rank among the table's tasks, from 0. Rows and bits at
  *        or beyond the number of tasks are 0. Rows beyond the 64 keep their values.
  *
- * A jitter that is missing (4,294,967,295, not measured) is read as the period of its task's transaction, which is above
- * every distance: such a task may preempt each task of its transaction that has lower priority, unless a pair forbids it.
+ * A jitter that is missing is read as the period, which is above every distance: such a task may preempt each task of its
+ * transaction that has a threshold below its priority, unless a pair forbids it.
  */
 siodlomil_map_answer siodlomil_map(const uint8_t *image, size_t image_bytes, uint64_t *map, size_t map_rows);
 
@@ -132,13 +149,13 @@ siodlomil_map_answer siodlomil_map(const uint8_t *image, size_t image_bytes, uin
  * Finds the four bounds of a table image, and the chain that reaches the first: refusals 1 to 8, then 11.
  *
  * image  read: the table image.
- * map    read: at least 64 rows, of any contents. A set bit counts only where both places hold tasks and the first has
- *        lower priority.
+ * map    read: at least 64 rows, of any contents. A set bit counts only where both places hold tasks and the first one's
+ *        threshold is below the second one's priority.
  * ids    written: at least 64 entries. The heaviest chain by its tasks' ids, lowest priority first; of chains that weigh
  *        the same the first, compared id by id. Entries beyond the answered length keep their values.
  *
- * Always chain <= path <= levels, and chain <= transactions; none is above 4,194,240, which is 64 tasks of 65,535 bytes. A
- * table without tasks has 0 for each, and no ids.
+ * Levels go by priorities, whatever the thresholds are. Always chain <= path <= levels, and chain <= transactions; none is
+ * above 4,194,240, which is 64 tasks of 65,535 bytes. A table without tasks has 0 for each, and no ids.
  */
 siodlomil_bounds_answer siodlomil_bounds(const uint8_t *image, size_t image_bytes, const uint64_t *map, size_t map_rows,
                                          uint16_t *ids, size_t ids_entries);
@@ -166,7 +183,8 @@ siodlomil_reason_answer siodlomil_reason(const uint8_t *image, size_t image_byte
  * new_map   written: at least 64 rows. A bit for two tasks that the patch does not touch is the base map's at their old
  *           places, any other is decided from the outcome. Rows beyond the 64 keep their values.
  *
- * Records are compared byte for byte: a missing jitter is not equal to a written one, even to one that is the period.
+ * Records are compared byte for byte: a missing jitter is not equal to a written one, even to one that is the period, nor
+ * a threshold of 0 to the priority written out.
  * A task is touched where a patch record is its own record, names it in a pair, or is its transaction's record. Where
  * base_map is what siodlomil_map fills in for the base, new_map is what it would fill in for the outcome.
  */
