@@ -1,5 +1,6 @@
 -- Laws of the refusals: one check after another, an accepted check has found no fault, and the lowest place with a fault.
 use Prim.Native.Nat.{ℕ, _<_}
+use mathlib.Core.List.{List}
 use mathlib.Core.Bool.{Bool, true, false, _&&_, not}
 use mathlib.Core.Path.{_≡_, refl}
 use native.Mathlib.Omega.{arith}
@@ -8,7 +9,8 @@ use Rattle.rules.specs.declared.Form.{Form}
 use Rattle.rules.specs.declared.Form.the-variants.{Table, Patch}
 use Rattle.rules.specs.declared.Verdict.{Verdict}
 use Rattle.rules.specs.Numbers.{lowest, some}
-use Rattle.rules.specs.Refusals.{accepted, fine, refusal, refuseIf, refuseAt, orElse, numbered}
+use Rattle.rules.specs.Blocks.{records}
+use Rattle.rules.specs.Refusals.{accepted, fine, refusal, refuseIf, refuseAt, orElse, numbered, frameVerdict, recordsVerdict, referenceRefusal, tableVerdict}
 use Rattle.rules.proofs.Numbers.{either, lowest-none, some-fails, some-false}
 
 -- no refusal has the number 0
@@ -32,6 +34,15 @@ accepted-second v w h = rw (accepted-first v w h) at h
 
 pub accepted-both : (v w : Verdict) → accepted (orElse v w) ≡ true → (accepted v ≡ true) × (accepted w ≡ true)
 accepted-both v w h = (accepted-first v w h, accepted-second v w h)
+
+-- so an accepted table has records in which neither refusals 4 to 7 nor refusal 8 find a fault
+pub accepted-parts : (image : List ℕ) → accepted (tableVerdict image) ≡ true
+    → (accepted (recordsVerdict Table (records image)) ≡ true) × (accepted (referenceRefusal (records image)) ≡ true)
+unfolding tableVerdict
+accepted-parts image h =
+    let rs : List (List ℕ) = records image in
+    accepted-both (recordsVerdict Table rs) (referenceRefusal rs)
+    (accepted-second (frameVerdict Table image) (orElse (recordsVerdict Table rs) (referenceRefusal rs)) h)
 
 -- and only there, as one equation
 pub accepted-orElse : (v w : Verdict) → accepted (orElse v w) ≡ (accepted v && accepted w)

@@ -12,8 +12,8 @@ use Rattle.rules.specs.declared.Form.{Form}
 use Rattle.rules.specs.declared.Form.the-variants.{Table, Patch}
 use Rattle.rules.specs.Numbers.{Bytes, sumTo, countTo}
 use Rattle.rules.specs.Blocks.{records, recordCount}
-use Rattle.rules.specs.Refusals.{accepted, orElse, frameVerdict, recordsVerdict, referenceRefusal, tableVerdict, patchVerdict}
-use Rattle.rules.proofs.Refusals.{accepted-first, accepted-second}
+use Rattle.rules.specs.Refusals.{accepted, frameVerdict, recordsVerdict, tableVerdict, patchVerdict}
+use Rattle.rules.proofs.Refusals.{accepted-parts}
 use Rattle.rules.proofs.Table.Kinds.{Grouped, length-ofKind}
 use Rattle.rules.proofs.Table.Order.{kind-rises}
 use Rattle.rules.proofs.Table.Shape.{shape-of, records-bytes}
@@ -100,10 +100,7 @@ patch-held image patch = records-held Patch image (frame-accepted Patch image pa
 
 -- the records of an accepted table are accepted
 pub records-accepted : (image : List ℕ) → accepted (tableVerdict image) ≡ true → accepted (recordsVerdict Table (records image)) ≡ true
-unfolding tableVerdict
-records-accepted image table =
-    accepted-first (recordsVerdict Table (records image)) (referenceRefusal (records image))
-    (accepted-second (frameVerdict Table image) (orElse (recordsVerdict Table (records image)) (referenceRefusal (records image))) table)
+records-accepted image table = accepted-parts image table .0
 
 -- which is what counting its records of a kind asks for
 pub count-asked : (image : List ℕ) → accepted (tableVerdict image) ≡ true → (kind : ℕ) → kind ≤ 3

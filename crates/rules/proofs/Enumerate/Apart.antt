@@ -7,8 +7,8 @@ use native.Mathlib.Omega.{arith}
 use Rattle.rules.specs.declared.Form.the-variants.{Table}
 use Rattle.rules.specs.Blocks.{records}
 use Rattle.rules.specs.Records.{numberOf, tasks}
-use Rattle.rules.specs.Refusals.{accepted, orElse, frameVerdict, recordsVerdict, referenceRefusal, tableVerdict}
-use Rattle.rules.proofs.Refusals.{accepted-first, accepted-second}
+use Rattle.rules.specs.Refusals.{accepted, recordsVerdict, tableVerdict}
+use Rattle.rules.proofs.Refusals.{accepted-parts}
 use Rattle.rules.proofs.Table.Order.{rises-apart, numbers-rise}
 use Rattle.rules.proofs.Table.Shape.{faultless-of, faultless-rises}
 use Rattle.rules.proofs.Enumerate.{IdsApart}
@@ -19,7 +19,4 @@ records-apart rs h = rises-apart numberOf (tasks rs) (numbers-rise 2 rs (omega a
 
 -- in an accepted table no two tasks share an id
 pub accepted-apart : (image : List ℕ) → accepted (tableVerdict image) ≡ true → IdsApart (records image)
-unfolding tableVerdict
-accepted-apart image h =
-    let rest = accepted-second (frameVerdict Table image) (orElse (recordsVerdict Table (records image)) (referenceRefusal (records image))) h in
-    records-apart (records image) (accepted-first (recordsVerdict Table (records image)) (referenceRefusal (records image)) rest)
+accepted-apart image h = records-apart (records image) (accepted-parts image h .0)

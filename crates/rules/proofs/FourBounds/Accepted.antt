@@ -9,9 +9,9 @@ use lib.ListN.{getD}
 use Rattle.rules.specs.declared.Form.the-variants.{Table}
 use Rattle.rules.specs.Blocks.{records}
 use Rattle.rules.specs.Records.{rangeWrong, tasks, taskCount, taskAt, transactions, listed}
-use Rattle.rules.specs.Refusals.{accepted, orElse, frameVerdict, recordsVerdict, referenceRefusal, tableVerdict}
+use Rattle.rules.specs.Refusals.{accepted, recordsVerdict, tableVerdict}
 use Rattle.rules.specs.Chains.{priorityAt}
-use Rattle.rules.proofs.Refusals.{accepted-first, accepted-second}
+use Rattle.rules.proofs.Refusals.{accepted-parts}
 use Rattle.rules.proofs.Related.{Climbing}
 use Rattle.rules.proofs.Table.Kinds.{kind-ofKind, ofKind-each}
 use Rattle.rules.proofs.Table.Ranges.{task-right, task-ranges}
@@ -31,15 +31,9 @@ records-climbing rs h i j l yielding =
 
 -- so it is in an accepted table
 pub accepted-climbing : (image : List ℕ) → accepted (tableVerdict image) ≡ true → Climbing (records image)
-unfolding tableVerdict
-accepted-climbing image h =
-    let rest = accepted-second (frameVerdict Table image) (orElse (recordsVerdict Table (records image)) (referenceRefusal (records image))) h in
-    records-climbing (records image) (accepted-first (recordsVerdict Table (records image)) (referenceRefusal (records image)) rest)
+accepted-climbing image h = records-climbing (records image) (accepted-parts image h .0)
 
 -- in an accepted table the transaction of every task is listed
 pub accepted-listed : (image : List ℕ) → accepted (tableVerdict image) ≡ true
     → (i : ℕ) → i < taskCount (records image) → listed (transactions (records image)) (taskAt (records image) i .transaction) ≡ true
-unfolding tableVerdict
-accepted-listed image h =
-    let rest = accepted-second (frameVerdict Table image) (orElse (recordsVerdict Table (records image)) (referenceRefusal (records image))) h in
-    listed-of (records image) (accepted-second (recordsVerdict Table (records image)) (referenceRefusal (records image)) rest) .transaction-listed
+accepted-listed image h = listed-of (records image) (accepted-parts image h .1) .transaction-listed

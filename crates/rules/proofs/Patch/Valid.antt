@@ -10,7 +10,7 @@ use Rattle.rules.specs.declared.Verdict.{Verdict}
 use Rattle.rules.specs.Blocks.{records, imageOf}
 use Rattle.rules.specs.Records.{numberOf, key, formWrong, rangeWrong, tooMany, referenceWrong, transactions, tasks, taskCount}
 use Rattle.rules.specs.Refusals.{accepted, fine, orElse, refuseIf, formRefusal, orderWrong, orderRefusal, rangeRefusal, countRefusal, referenceRefusal, frameVerdict, recordsVerdict, tableVerdict, broken}
-use Rattle.rules.proofs.Refusals.{accepted-first, accepted-second, fine-both, fine-at, accepted-if, accepted-at}
+use Rattle.rules.proofs.Refusals.{accepted-first, accepted-second, accepted-parts, fine-both, fine-at, accepted-if, accepted-at}
 use Rattle.rules.proofs.Image.Parts.{Records}
 use Rattle.rules.proofs.Image.Frame.{frame-accepted, frame-of, records-sized}
 use Rattle.rules.proofs.Image.Written.{frame-imageOf, records-imageOf}
@@ -26,13 +26,12 @@ pub record Valid (rs : List (List ℕ)) : Type 0 where
 
 -- the records of an accepted image are a table
 pub valid-of : (image : List ℕ) → accepted (tableVerdict image) ≡ true → Valid (records image)
-unfolding tableVerdict
 valid-of image h =
-    let rest = accepted-second (frameVerdict Table image) (orElse (recordsVerdict Table (records image)) (referenceRefusal (records image))) h in
+    let (sound, named) = accepted-parts image h in
     record {
       sized = records-sized Table image (frame-of Table image (frame-accepted Table image h));
-      faultless = faultless-of (records image) (accepted-first (recordsVerdict Table (records image)) (referenceRefusal (records image)) rest);
-      references = accepted-second (recordsVerdict Table (records image)) (referenceRefusal (records image)) rest;
+      faultless = faultless-of (records image) sound;
+      references = named;
     }
 
 -- where refusal 7 is accepted, it is fine

@@ -7,14 +7,13 @@ use native.Mathlib.Omega.{arith}
 use borrow.Author.Tests.{eqb-true, eq-eqb, ne-eqb, ltb-true, not-false}
 use lib.ListN.{length, getD}
 use lib.Dec.{eqb, ltb}
-use Rattle.rules.specs.declared.Form.the-variants.{Table}
 use Rattle.rules.specs.Numbers.{Bytes, le4}
 use Rattle.rules.specs.Blocks.{records}
 use Rattle.rules.specs.Records.{kindOf, numberOf, secondOf, ofKind, transactions, tasks, pairs, taskCount, taskAt, placeOf, listed, periodIn, referenceWrong}
-use Rattle.rules.specs.Refusals.{accepted, orElse, frameVerdict, recordsVerdict, referenceRefusal, tableVerdict}
+use Rattle.rules.specs.Refusals.{accepted, referenceRefusal, tableVerdict}
 use Rattle.rules.proofs.Numbers.{lowest-here, lowest-none, lowest-passes, some-true}
 use Rattle.rules.proofs.Tests.{neither-first, neither-second}
-use Rattle.rules.proofs.Refusals.{accepted-first, accepted-second, no-fault-at}
+use Rattle.rules.proofs.Refusals.{accepted-parts, no-fault-at}
 use Rattle.rules.proofs.Table.Kinds.{kind-ofKind, ofKind-each}
 use Rattle.rules.proofs.Table.Order.{Rises}
 use Rattle.rules.proofs.Table.Shape.{Shape, shape-of}
@@ -100,8 +99,6 @@ module _ (rs : List (List ℕ)) (h : accepted (referenceRefusal rs) ≡ true) wh
 
 -- what an accepted table gives
 pub table-of : (image : List ℕ) → Bytes image → accepted (tableVerdict image) ≡ true → Shape (records image) × Listed (records image)
-unfolding tableVerdict
 table-of image bytes h =
-    let rest = accepted-second (frameVerdict Table image) (orElse (recordsVerdict Table (records image)) (referenceRefusal (records image))) h in
-    let shape = shape-of image bytes (accepted-first (recordsVerdict Table (records image)) (referenceRefusal (records image)) rest) in
-    (shape, listed-of (records image) (accepted-second (recordsVerdict Table (records image)) (referenceRefusal (records image)) rest))
+    let (sound, named) = accepted-parts image h in
+    (shape-of image bytes sound, listed-of (records image) named)
