@@ -10,18 +10,16 @@ use lib.Dec.{eqb, ltb}
 use Rattle.rules.specs.declared.Form.the-variants.{Table, Patch}
 use Rattle.rules.specs.Numbers.{Bytes, lowest, sumTo, countTo, between}
 use Rattle.rules.specs.Blocks.{records, recordAt, recordCount}
-use Rattle.rules.specs.Records.{kindOf, wayOf, key, imageKey, zeroBytes, formWrong, mostOf, countOf, tooMany}
-use Rattle.rules.specs.declared.Verdict.{Verdict}
-use Rattle.rules.specs.Refusals.{accepted, orElse, refuseIf, orderWrong, formRefusal, orderRefusal, rangeRefusal, countRefusal, frameVerdict, recordsVerdict, tableVerdict, patchVerdict}
+use Rattle.rules.specs.Records.{kindOf, wayOf, imageKey, formWrong}
+use Rattle.rules.specs.Refusals.{accepted, tableVerdict, patchVerdict}
 use Rattle.rules.proofs.Numbers.{either, length-upTo, getD-upTo, lowest-passes, lowest-below}
-use Rattle.rules.proofs.Tests.{neither-first, neither-second}
-use Rattle.rules.proofs.Refusals.{accepted-first, accepted-second, no-fault, no-fault-at}
+use Rattle.rules.proofs.Tests.{neither-first}
 use Rattle.rules.proofs.Image.Frame.{frame-accepted, frame-of}
-use Rattle.rules.proofs.Table.Ranges.{le2-small, between-least, between-most}
-use Rattle.rules.proofs.Table.Order.{Rises, rises-of-next, order-right}
-use Rattle.rules.proofs.Table.Shape.{records-bytes}
+use Rattle.rules.proofs.Table.Ranges.{between-least, between-most}
+use Rattle.rules.proofs.Table.Order.{Rises}
+use Rattle.rules.proofs.Table.Shape.{transactions-counted, tasks-counted, pairs-counted, not-too-many, faultless-order, records-bytes}
 use Rattle.rules.proofs.Patch.Valid.{valid-of}
-use Rattle.rules.proofs.Patch.Outcome.{well-formed-of}
+use Rattle.rules.proofs.Patch.WellFormed.{well-formed-of, well-formed-rises, well-formed-ways, well-formed-parts}
 use Rattle.patch.specs.Merge.{PutsFrom}
 
 -- the list has as many records as the image
@@ -32,20 +30,7 @@ as-many image = length-upTo (recordAt image) (recordCount image)
 pub read-is : (image : List ℕ) (k : ℕ) (fields : List ℕ) → k < recordCount image → fields ≡ recordAt image k → fields ≡ getD (records image) k []
 read-is image k fields h e = e ∙ sym (getD-upTo (recordAt image) (recordCount image) k [] h)
 
--- a key of bytes is a number of five bytes
-pub key-small : (r : List ℕ) → Bytes r → key r < 1099511627776
-key-small r bytes =
-    either (eqb (kindOf r) 3)
-    (λ t. rw t (omega (arith, bytes 0, le2-small r bytes 2, le2-small r bytes 4)))
-    (λ t. rw t (omega (arith, bytes 0, le2-small r bytes 2)))
-
--- byte 31 of a patch record is 0 or 1
-pub way-most : (r : List ℕ) → formWrong Patch r ≡ false → wayOf r ≤ 1
-unfolding formWrong
-way-most r right =
-    ltb-false 1 (wayOf r) (neither-second (not (zeroBytes r)) _ (neither-second (not (between 1 (kindOf r) 3)) _ right))
-
--- and its kind is 1, 2 or 3
+-- the kind of a patch record is 1, 2 or 3
 known-patch-kind : (r : List ℕ) → formWrong Patch r ≡ false → (1 ≤ kindOf r) × (kindOf r ≤ 3)
 unfolding formWrong
 known-patch-kind r right =
@@ -60,30 +45,21 @@ table-long image table =
 
 -- the records of an accepted table are in the image's order
 pub base-rises : (base : List ℕ) → accepted (tableVerdict base) ≡ true → Rises imageKey (records base)
-base-rises base table =
-    rises-of-next imageKey (records base)
-    (λ k some m. order-right (records base) k (valid-of base table .faultless .orders k m) some)
+base-rises base table = faultless-order Table (records base) (valid-of base table .faultless)
 
 -- an accepted patch
 module _ (patch : List ℕ) (right : accepted (patchVerdict patch) ≡ true) where
   -- its records are in the image's order
   pub patch-rises : Rises imageKey (records patch)
-  unfolding patchVerdict recordsVerdict
-  patch-rises =
-      let ps = records patch in
-      let rest = accepted-second (frameVerdict Patch patch) (recordsVerdict Patch ps) right in
-      let rest′ = accepted-second (formRefusal Patch ps) (orElse (orderRefusal Patch ps) (orElse (rangeRefusal Patch ps) (countRefusal Patch ps))) rest in
-      let orders = no-fault-at 25 (orderWrong ps) (length ps) (omega arith) (accepted-first (orderRefusal Patch ps) _ rest′) in
-      rises-of-next imageKey ps (λ k some m. order-right ps k (orders k m) some)
+  patch-rises = well-formed-rises (records patch) (well-formed-of patch right)
 
   -- each is taken out or put in
   pub patch-ways : (k : ℕ) → k < length (records patch) → wayOf (getD (records patch) k []) ≤ 1
-  patch-ways k l = way-most (getD (records patch) k []) (well-formed-of patch right .forms k l)
+  patch-ways = well-formed-ways (records patch) (well-formed-of patch right)
 
   -- and all that are taken out come first
   pub ways-rise : Bytes patch → (j k : ℕ) → j < k → k < length (records patch) → wayOf (getD (records patch) j []) ≤ wayOf (getD (records patch) k [])
-  ways-rise bytes j k h l =
-      omega (arith, patch-rises j k h l, key-small (getD (records patch) k []) (records-bytes patch bytes k))
+  ways-rise bytes = well-formed-parts (records patch) (well-formed-of patch right) (records-bytes patch bytes)
 
   -- so from the first record that is put in, all are
   pub puts-from : Bytes patch → (m : ℕ) → m ≡ lowest (λ k. not (eqb (wayOf (getD (records patch) k [])) 0)) (length (records patch))
@@ -139,28 +115,16 @@ puts-counted ps m (suc n) few puts kinds =
     let one = one-of-three (kindOf (getD ps n [])) (wayOf (getD ps n [])) (kind .0) (kind .1) (puts n (ltb-false n m t) (omega arith)) in
     omega arith)
 
--- of a kind of which there are not found to be too many, at most as many as allowed are put in
-put-few : (ps : List (List ℕ)) (k : ℕ) → tooMany ps k ≡ false → countOf k 1 ps ≤ mostOf k
-unfolding tooMany
-put-few ps k h = ltb-false (mostOf k) (countOf k 1 ps) (neither-second (ltb (mostOf k) (countOf k 0 ps)) _ h)
-
 -- so an accepted patch puts in at most 16 + 64 + 256 records
 pub puts-few : (patch : List ℕ) → accepted (patchVerdict patch) ≡ true → (m : ℕ) → PutsFrom (records patch) m
     → length (records patch) ≤ m + 336
-unfolding patchVerdict recordsVerdict
 puts-few patch right m puts =
     let ps = records patch in
-    let few : ℕ → Verdict = λ k. refuseIf 27 k (tooMany ps k) in
-    let rest = accepted-second (frameVerdict Patch patch) (recordsVerdict Patch ps) right in
-    let rest′ = accepted-second (formRefusal Patch ps) (orElse (orderRefusal Patch ps) (orElse (rangeRefusal Patch ps) (countRefusal Patch ps))) rest in
-    let rest″ = accepted-second (orderRefusal Patch ps) (orElse (rangeRefusal Patch ps) (countRefusal Patch ps)) rest′ in
-    let counts : accepted (orElse (few 1) (orElse (few 2) (few 3))) ≡ true = accepted-second (rangeRefusal Patch ps) (countRefusal Patch ps) rest″ in
-    let later = accepted-second (few 1) (orElse (few 2) (few 3)) counts in
-    let of : (k : ℕ) → accepted (few k) ≡ true → countOf k 1 ps ≤ mostOf k = λ k h. put-few ps k (no-fault 27 k (tooMany ps k) (omega arith) h) in
+    let f = well-formed-of patch right .faultless in
     omega (
       arith,
-      puts-counted ps m (length ps) (omega arith) puts (λ k l. known-patch-kind (getD ps k []) (well-formed-of patch right .forms k l)),
-      of 1 (accepted-first (few 1) (orElse (few 2) (few 3)) counts),
-      of 2 (accepted-first (few 2) (few 3) later),
-      of 3 (accepted-second (few 2) (few 3) later),
+      puts-counted ps m (length ps) (omega arith) puts (λ k l. known-patch-kind (getD ps k []) (f .forms k l)),
+      not-too-many ps 1 (transactions-counted Patch ps (f .counts)) .1,
+      not-too-many ps 2 (tasks-counted Patch ps (f .counts)) .1,
+      not-too-many ps 3 (pairs-counted Patch ps (f .counts)) .1,
     )

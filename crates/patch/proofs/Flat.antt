@@ -44,11 +44,11 @@ set-behind : (p q : List ℕ) (i x : ℕ) → set (p ++ q) (length p + i) x ≡ 
 set-behind [] q i x = rw zero-add
 set-behind (y ∷ p) q i x = rw suc-add (ap (λ (l : List ℕ). y ∷ l) (set-behind p q i x))
 
--- byte 31 of the record is set to 0 where it lies
-pub way-cleared : (r flat : List ℕ) (written : ℕ) → length r ≡ 32 → written + 32 ≤ length flat
-    → set (withRecord written r flat) (written + 31) 0 ≡ withRecord written (set r 31 0) flat
-way-cleared r flat written long fits =
+-- byte 31 of the record is written where it lies
+pub way-written : (r flat : List ℕ) (written way : ℕ) → length r ≡ 32 → written + 32 ≤ length flat
+    → set (withRecord written r flat) (written + 31) way ≡ withRecord written (set r 31 way) flat
+way-written r flat written way long fits =
     let front : length (take written flat) ≡ written = length-take-le written flat (omega arith) in
-    ap (λ (n : ℕ). set (withRecord written r flat) (n + 31) 0) (sym front)
-    ∙ set-behind (take written flat) (r ++ drop (written + 32) flat) 31 0
-    ∙ rw (set-append-left r (drop (written + 32) flat) 31 0 (omega arith))
+    ap (λ (n : ℕ). set (withRecord written r flat) (n + 31) way) (sym front)
+    ∙ set-behind (take written flat) (r ++ drop (written + 32) flat) 31 way
+    ∙ rw (set-append-left r (drop (written + 32) flat) 31 way (omega arith))

@@ -4,4 +4,5 @@ pub mod call;
 mod carried;
 mod merge;
 mod outcome;
+pub mod parts;
 mod touched;

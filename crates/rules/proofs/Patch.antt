@@ -2,7 +2,8 @@
 -- when a patch is accepted, what it leaves untouched, the map that it makes, and a run of patches.
 pub mod Members
 pub mod Valid
-pub mod PutIn
+pub mod Turned
+pub mod WellFormed
 pub mod Outcome
 pub mod Exactly
 pub mod Untouched

@@ -15,7 +15,7 @@ use Rattle.rules.proofs.Enumerate.{IdsApart}
 
 -- records without a fault in form and order: no two tasks share an id
 pub records-apart : (rs : List (List ℕ)) → accepted (recordsVerdict Table rs) ≡ true → IdsApart rs
-records-apart rs h = rises-apart numberOf (tasks rs) (numbers-rise 2 rs (omega arith) (faultless-rises rs (faultless-of rs h)))
+records-apart rs h = rises-apart numberOf (tasks rs) (numbers-rise 2 rs (omega arith) (faultless-rises rs (faultless-of Table rs h)))
 
 -- in an accepted table no two tasks share an id
 pub accepted-apart : (image : List ℕ) → accepted (tableVerdict image) ≡ true → IdsApart (records image)

@@ -21,7 +21,7 @@ use Rattle.rules.proofs.Table.Listed.{listed-of}
 -- records without a fault in form, order and range: no task's threshold is below its priority
 pub records-thresholds : (rs : List (List ℕ)) → accepted (recordsVerdict Table rs) ≡ true → (i : ℕ) → i < taskCount rs → priorityAt rs i ≤ taskAt rs i .threshold
 records-thresholds rs h i l =
-    let right = ofKind-each (λ r. rangeWrong r ≡ false) 2 rs (faultless-of rs h .ranges) i l in
+    let right = ofKind-each (λ r. rangeWrong r ≡ false) 2 rs (faultless-of Table rs h .ranges) i l in
     task-ranges (getD (tasks rs) i []) (task-right (getD (tasks rs) i []) right (kind-ofKind 2 rs i l)) .threshold-from-priority
 
 -- so each yields only to tasks of higher priority

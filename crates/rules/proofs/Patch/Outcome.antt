@@ -10,34 +10,14 @@ use Rattle.rules.specs.declared.Form.the-variants.{Table, Patch}
 use Rattle.rules.specs.Blocks.{records, imageOf}
 use Rattle.rules.specs.Records.{formWrong, rangeWrong}
 use Rattle.rules.specs.Patches.{outcome}
-use Rattle.rules.specs.Refusals.{accepted, orElse, formRefusal, orderWrong, orderRefusal, rangeRefusal, countRefusal, referenceRefusal, frameVerdict, recordsVerdict, tableVerdict, patchVerdict, broken}
+use Rattle.rules.specs.Refusals.{accepted, orElse, orderWrong, orderRefusal, countRefusal, referenceRefusal, tableVerdict, patchVerdict, broken}
 use Rattle.rules.proofs.Numbers.{either, never}
 use Rattle.rules.proofs.Refusals.{accepted-first, accepted-second, no-fault-at}
 use Rattle.rules.proofs.Image.Parts.{Records}
-use Rattle.rules.proofs.Image.Frame.{frame-accepted, frame-of, records-sized}
 use Rattle.rules.proofs.Patch.Members.{has-each, outcome-each}
-use Rattle.rules.proofs.Patch.PutIn.{put-form, put-range}
+use Rattle.rules.proofs.Patch.Turned.{turned-form, turned-range}
+use Rattle.rules.proofs.Patch.WellFormed.{well-formed-of}
 use Rattle.rules.proofs.Patch.Valid.{Valid, valid-of, valid-few, table-of-valid, valid-not-broken, valid-imageOf}
-
--- a list of records that is a patch: each is 32 bytes long, and its form and its ranges are right
-pub record WellFormed (ps : List (List ℕ)) : Type 0 where
-  pub sized : Records ps
-  pub forms : (k : ℕ) → k < length ps → formWrong Patch (getD ps k []) ≡ false
-  pub ranges : (k : ℕ) → k < length ps → rangeWrong (getD ps k []) ≡ false
-
--- the records of an accepted patch are one
-pub well-formed-of : (patch : List ℕ) → accepted (patchVerdict patch) ≡ true → WellFormed (records patch)
-unfolding patchVerdict recordsVerdict
-well-formed-of patch h =
-    let ps = records patch in
-    let rest = accepted-second (frameVerdict Patch patch) (recordsVerdict Patch ps) h in
-    let rest′ = accepted-second (formRefusal Patch ps) (orElse (orderRefusal Patch ps) (orElse (rangeRefusal Patch ps) (countRefusal Patch ps))) rest in
-    let rest″ = accepted-second (orderRefusal Patch ps) (orElse (rangeRefusal Patch ps) (countRefusal Patch ps)) rest′ in
-    record {
-      sized = records-sized Patch patch (frame-of Patch patch (frame-accepted Patch patch h));
-      forms = no-fault-at 24 (λ k. formWrong Patch (getD ps k [])) (length ps) (omega arith) (accepted-first (formRefusal Patch ps) _ rest);
-      ranges = no-fault-at 26 (λ k. rangeWrong (getD ps k [])) (length ps) (omega arith) (accepted-first (rangeRefusal Patch ps) _ rest″);
-    }
 
 -- an accepted table, and an accepted patch
 module _ (base patch : List ℕ) (table : accepted (tableVerdict base) ≡ true) (right : accepted (patchVerdict patch) ≡ true) where
@@ -52,13 +32,13 @@ module _ (base patch : List ℕ) (table : accepted (tableVerdict base) ≡ true)
       → formWrong Table (getD (outcome (records base) (records patch)) k []) ≡ false
   outcome-forms =
       outcome-each (λ r. formWrong Table r ≡ false) (records base) (records patch) (valid-of base table .faultless .forms)
-      (λ p there way. put-form p (has-each (λ r. formWrong Patch r ≡ false) (records patch) (well-formed-of patch right .forms) p there))
+      (λ p there way. turned-form p 0 Table (omega arith) (has-each (λ r. formWrong Patch r ≡ false) (records patch) (well-formed-of patch right .faultless .forms) p there))
 
   pub outcome-ranges : (k : ℕ) → k < length (outcome (records base) (records patch))
       → rangeWrong (getD (outcome (records base) (records patch)) k []) ≡ false
   outcome-ranges =
       outcome-each (λ r. rangeWrong r ≡ false) (records base) (records patch) (valid-of base table .faultless .ranges)
-      (λ p there way. put-range p ∙ has-each (λ r. rangeWrong r ≡ false) (records patch) (well-formed-of patch right .ranges) p there)
+      (λ p there way. turned-range p 0 ∙ has-each (λ r. rangeWrong r ≡ false) (records patch) (well-formed-of patch right .faultless .ranges) p there)
 
   -- so where order, counts and references are right too, the outcome is a table
   pub outcome-valid : broken (outcome (records base) (records patch)) ≡ false → Valid (outcome (records base) (records patch))

@@ -15,7 +15,7 @@ use Rattle.rules.proofs.Table.Kinds.{kind-ofKind}
 use Rattle.rules.proofs.Table.Order.{Rises}
 use Rattle.rules.proofs.Table.Listed.{listed-of, place-below, number-at-place, place-of-number}
 use Rattle.rules.proofs.Patch.Members.{has-place, has-each, has-outcome, has-among-kind, has-kind-at, has-takenOut, outcome-from}
-use Rattle.rules.proofs.Patch.PutIn.{put-kind, put-number, put-second}
+use Rattle.rules.proofs.Patch.Turned.{turned-kind, turned-number, turned-second}
 use Rattle.rules.proofs.Patch.Valid.{Valid, valid-transactions-rise, valid-tasks-rise}
 
 -- what concerns a task
@@ -48,7 +48,7 @@ module _ (r task : List ℕ) where
 
 -- a record put in concerns the tasks that the patch's does
 put-concerns : (p task : List ℕ) → concerns (set p 31 0) task ≡ concerns p task
-put-concerns p task = rw (put-kind p, put-number p, put-second p)
+put-concerns p task = rw (turned-kind p 0, turned-number p 0, turned-second p 0)
 
 -- a record of a list whose numbers rise is found by its number
 found-by-number : (l : List (List ℕ)) → Rises numberOf l → (r : List ℕ) → has l r ≡ true

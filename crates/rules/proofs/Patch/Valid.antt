@@ -16,12 +16,12 @@ use Rattle.rules.proofs.Image.Frame.{frame-accepted, frame-of, records-
 use Rattle.rules.proofs.Image.Written.{frame-imageOf, records-imageOf}
 use Rattle.rules.proofs.Table.Kinds.{length-kinds}
 use Rattle.rules.proofs.Table.Order.{Rises, numbers-rise}
-use Rattle.rules.proofs.Table.Shape.{Faultless, faultless-of, faultless-known, faultless-rises, few-transactions, few-tasks, few-pairs}
+use Rattle.rules.proofs.Table.Shape.{Faultless, faultless-of, faultless-fine, counts-fine, faultless-known, faultless-rises, few-transactions, few-tasks, few-pairs}
 
 -- a list of records that is a table
 pub record Valid (rs : List (List ℕ)) : Type 0 where
   pub sized : Records rs
-  pub faultless : Faultless rs
+  pub faultless : Faultless Table rs
   pub references : accepted (referenceRefusal rs) ≡ true
 
 -- the records of an accepted image are a table
@@ -30,32 +30,9 @@ valid-of image h =
     let (sound, named) = accepted-parts image h in
     record {
       sized = records-sized Table image (frame-of Table image (frame-accepted Table image h));
-      faultless = faultless-of (records image) sound;
+      faultless = faultless-of Table (records image) sound;
       references = named;
     }
-
--- where refusal 7 is accepted, it is fine
-count-fine : (rs : List (List ℕ)) → accepted (countRefusal Table rs) ≡ true → countRefusal Table rs ≡ fine
-count-fine rs h =
-    let few : ℕ → Verdict = λ k. refuseIf 7 k (tooMany rs k) in
-    let rest = accepted-second (few 1) (orElse (few 2) (few 3)) h in
-    fine-both (few 1) (orElse (few 2) (few 3))
-    (accepted-if 7 1 (tooMany rs 1) (omega arith) (accepted-first (few 1) (orElse (few 2) (few 3)) h))
-    (fine-both (few 2) (few 3)
-    (accepted-if 7 2 (tooMany rs 2) (omega arith) (accepted-first (few 2) (few 3) rest))
-    (accepted-if 7 3 (tooMany rs 3) (omega arith) (accepted-second (few 2) (few 3) rest)))
-
--- faultless records are fine
-pub faultless-fine : (rs : List (List ℕ)) → Faultless rs → recordsVerdict Table rs ≡ fine
-unfolding recordsVerdict
-faultless-fine rs f =
-    fine-both (formRefusal Table rs) (orElse (orderRefusal Table rs) (orElse (rangeRefusal Table rs) (countRefusal Table rs)))
-    (fine-at 4 (λ k. formWrong Table (getD rs k [])) (length rs) (f .forms))
-    (fine-both (orderRefusal Table rs) (orElse (rangeRefusal Table rs) (countRefusal Table rs))
-    (fine-at 5 (orderWrong rs) (length rs) (f .orders))
-    (fine-both (rangeRefusal Table rs) (countRefusal Table rs)
-    (fine-at 6 (λ k. rangeWrong (getD rs k [])) (length rs) (f .ranges))
-    (count-fine rs (f .counts))))
 
 -- what a table gives, whether its records are bytes or not
 module _ (rs : List (List ℕ)) (v : Valid rs) where
@@ -97,7 +74,7 @@ module _ (rs : List (List ℕ)) (v : Valid rs) where
       (fine-both (frameVerdict Table (imageOf Table rs)) (orElse (recordsVerdict Table rs) (referenceRefusal rs))
       (frame-imageOf Table rs (v .sized) (omega (arith, valid-few)))
       (fine-both (recordsVerdict Table rs) (referenceRefusal rs)
-      (faultless-fine rs (v .faultless))
+      (faultless-fine Table rs (v .faultless))
       references-fine))
 
   -- and as an outcome it is not broken
@@ -106,7 +83,7 @@ module _ (rs : List (List ℕ)) (v : Valid rs) where
       ap (λ (w : Verdict). not (accepted w))
       (fine-both (orderRefusal Table rs) (orElse (countRefusal Table rs) (referenceRefusal rs))
       (fine-at 5 (orderWrong rs) (length rs) (v .faultless .orders))
-      (fine-both (countRefusal Table rs) (referenceRefusal rs) (count-fine rs (v .faultless .counts)) references-fine))
+      (fine-both (countRefusal Table rs) (referenceRefusal rs) (counts-fine Table rs (v .faultless .counts)) references-fine))
 
 -- records of 32 bytes whose image is accepted are a table
 pub valid-imageOf : (rs : List (List ℕ)) → Records rs → accepted (tableVerdict (imageOf Table rs)) ≡ true → Valid rs

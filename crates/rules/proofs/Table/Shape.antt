@@ -7,16 +7,17 @@ use native.Mathlib.Omega.{arith}
 use borrow.Author.Tests.{ltb-true, ltb-false, not-false}
 use lib.ListN.{length, getD, List·getD-eq-default}
 use lib.Dec.{ltb}
+use Rattle.rules.specs.declared.Form.{Form}
 use Rattle.rules.specs.declared.Form.the-variants.{Table}
 use Rattle.rules.specs.declared.Verdict.{Verdict}
 use Rattle.rules.specs.Numbers.{Bytes, between}
 use Rattle.rules.specs.Blocks.{recordStart, recordAt, recordCount, records}
 use Rattle.rules.specs.Records.{ofKind, kindOf, numberOf, wayOf, key, imageKey, mostOf, zeroBytes, formWrong, rangeWrong, transactionRight, taskRight, pairRight, transactions, tasks, pairs, taskCount, countOf, tooMany}
-use Rattle.rules.specs.Refusals.{accepted, orElse, refuseIf, formRefusal, orderWrong, orderRefusal, rangeRefusal, countRefusal, recordsVerdict}
+use Rattle.rules.specs.Refusals.{accepted, fine, orElse, refuseIf, numbered, formRefusal, orderWrong, orderRefusal, rangeRefusal, countRefusal, recordsVerdict}
 use Rattle.rules.proofs.Numbers.{either, length-upTo, getD-upTo}
 use Rattle.rules.proofs.Bytes.{part-bytes}
 use Rattle.rules.proofs.Tests.{neither-first, neither-second}
-use Rattle.rules.proofs.Refusals.{accepted-first, accepted-second, no-fault, no-fault-at}
+use Rattle.rules.proofs.Refusals.{numbered-some, accepted-first, accepted-second, fine-both, no-fault, no-fault-at, fine-at, fine-if}
 use Rattle.rules.proofs.Table.Kinds.{Known, Grouped, Split, split-of, length-split, transaction-at, task-at, pair-at, transaction-kind, task-kind, pair-kind, count-ofKind, ofKind-all}
 use Rattle.rules.proofs.Table.Ranges.{between-least, between-most, transaction-right, task-right, pair-right}
 use Rattle.rules.proofs.Table.Order.{Rises, rises-of-next, order-right, kind-rises, numbers-rise}
@@ -35,28 +36,30 @@ pub record Shape (rs : List (List ℕ)) : Type 0 where
   pub pairs-right : (i : ℕ) → i < length (pairs rs) → pairRight (getD (pairs rs) i []) ≡ true
   pub ways : (k : ℕ) → wayOf (getD rs k []) ≡ 0
 
--- refusals 4 to 7 find no fault in these records
-pub record Faultless (rs : List (List ℕ)) : Type 0 where
-  pub forms : (k : ℕ) → k < length rs → formWrong Table (getD rs k []) ≡ false
+-- refusals 4 to 7 find no fault in these records of a table or a patch
+pub record Faultless (form : Form) (rs : List (List ℕ)) : Type 0 where
+  pub forms : (k : ℕ) → k < length rs → formWrong form (getD rs k []) ≡ false
   pub orders : (k : ℕ) → k < length rs → orderWrong rs k ≡ false
   pub ranges : (k : ℕ) → k < length rs → rangeWrong (getD rs k []) ≡ false
-  pub counts : accepted (countRefusal Table rs) ≡ true
+  pub counts : accepted (countRefusal form rs) ≡ true
 
 -- accepted records have none of these faults
-pub faultless-of : (rs : List (List ℕ)) → accepted (recordsVerdict Table rs) ≡ true → Faultless rs
+pub faultless-of : (form : Form) (rs : List (List ℕ)) → accepted (recordsVerdict form rs) ≡ true → Faultless form rs
 unfolding recordsVerdict
-faultless-of rs h =
-    let rest = accepted-second (formRefusal Table rs) (orElse (orderRefusal Table rs) (orElse (rangeRefusal Table rs) (countRefusal Table rs))) h in
-    let rest′ = accepted-second (orderRefusal Table rs) (orElse (rangeRefusal Table rs) (countRefusal Table rs)) rest in
+faultless-of form rs h =
+    let rest = accepted-second (formRefusal form rs) (orElse (orderRefusal form rs) (orElse (rangeRefusal form rs) (countRefusal form rs))) h in
+    let rest′ = accepted-second (orderRefusal form rs) (orElse (rangeRefusal form rs) (countRefusal form rs)) rest in
     record {
       forms =
-          no-fault-at 4 (λ k. formWrong Table (getD rs k [])) (length rs) (omega arith)
-          (accepted-first (formRefusal Table rs) _ h);
-      orders = no-fault-at 5 (orderWrong rs) (length rs) (omega arith) (accepted-first (orderRefusal Table rs) _ rest);
+          no-fault-at (numbered form 4) (λ k. formWrong form (getD rs k [])) (length rs) (numbered-some form 4 (omega arith))
+          (accepted-first (formRefusal form rs) _ h);
+      orders =
+          no-fault-at (numbered form 5) (orderWrong rs) (length rs) (numbered-some form 5 (omega arith))
+          (accepted-first (orderRefusal form rs) _ rest);
       ranges =
-          no-fault-at 6 (λ k. rangeWrong (getD rs k [])) (length rs) (omega arith)
-          (accepted-first (rangeRefusal Table rs) _ rest′);
-      counts = accepted-second (rangeRefusal Table rs) (countRefusal Table rs) rest′;
+          no-fault-at (numbered form 6) (λ k. rangeWrong (getD rs k [])) (length rs) (numbered-some form 6 (omega arith))
+          (accepted-first (rangeRefusal form rs) _ rest′);
+      counts = accepted-second (rangeRefusal form rs) (countRefusal form rs) rest′;
     }
 
 -- what it says of a table's record that its form is not found wrong
@@ -72,40 +75,61 @@ module _ (r : List ℕ) (right : formWrong Table r ≡ false) where
   way-zero =
       omega (arith, ltb-false 0 (wayOf r) (neither-second (not (zeroBytes r)) _ (neither-second (not (between 1 (kindOf r) 3)) _ right)))
 
--- of a kind of which there are not found to be too many there are at most as many as allowed
-pub not-too-many : (rs : List (List ℕ)) (k : ℕ) → tooMany rs k ≡ false → countOf k 0 rs ≤ mostOf k
+-- of a kind of which there are not found to be too many there are at most as many as allowed, taken out or put in
+pub not-too-many : (rs : List (List ℕ)) (k : ℕ) → tooMany rs k ≡ false → (countOf k 0 rs ≤ mostOf k) × (countOf k 1 rs ≤ mostOf k)
 unfolding tooMany
-not-too-many rs k h = ltb-false (mostOf k) (countOf k 0 rs) (neither-first (ltb (mostOf k) (countOf k 0 rs)) _ h)
+not-too-many rs k h =
+    (ltb-false (mostOf k) (countOf k 0 rs) (neither-first (ltb (mostOf k) (countOf k 0 rs)) _ h), ltb-false (mostOf k) (countOf k 1 rs) (neither-second (ltb (mostOf k) (countOf k 0 rs)) _ h))
 
--- where refusal 7 finds no fault, there are not too many of any kind
-module _ (rs : List (List ℕ)) (h : accepted (countRefusal Table rs) ≡ true) where
+-- where refusal 7 finds no fault
+module _ (form : Form) (rs : List (List ℕ)) (h : accepted (countRefusal form rs) ≡ true) where
   -- refusal 7 for one kind
   refuse : ℕ → Verdict
-  refuse k = refuseIf 7 k (tooMany rs k)
+  refuse k = refuseIf (numbered form 7) k (tooMany rs k)
 
   -- where it finds no fault, there are not too many of that kind
-  few : (k : ℕ) → accepted (refuse k) ≡ true → countOf k 0 rs ≤ mostOf k
+  few : (k : ℕ) → accepted (refuse k) ≡ true → tooMany rs k ≡ false
   unfolding refuse
-  few k fine = not-too-many rs k (no-fault 7 k (tooMany rs k) (omega arith) fine)
+  few k right = no-fault (numbered form 7) k (tooMany rs k) (numbered-some form 7 (omega arith)) right
 
   -- tasks and pairs are counted after the transactions
   rest : accepted (orElse (refuse 2) (refuse 3)) ≡ true
   unfolding refuse
   rest = accepted-second (refuse 1) (orElse (refuse 2) (refuse 3)) h
 
-  -- at most 16 transactions, 64 tasks, 256 pairs
-  pub count-transactions : countOf 1 0 rs ≤ 16
+  -- there are not too many transactions, tasks or pairs
+  pub transactions-counted : tooMany rs 1 ≡ false
   unfolding refuse
-  count-transactions = few 1 (accepted-first (refuse 1) (orElse (refuse 2) (refuse 3)) h)
+  transactions-counted = few 1 (accepted-first (refuse 1) (orElse (refuse 2) (refuse 3)) h)
 
-  pub count-tasks : countOf 2 0 rs ≤ 64
-  count-tasks = few 2 (accepted-first (refuse 2) (refuse 3) rest)
+  pub tasks-counted : tooMany rs 2 ≡ false
+  tasks-counted = few 2 (accepted-first (refuse 2) (refuse 3) rest)
 
-  pub count-pairs : countOf 3 0 rs ≤ 256
-  count-pairs = few 3 (accepted-second (refuse 2) (refuse 3) rest)
+  pub pairs-counted : tooMany rs 3 ≡ false
+  pairs-counted = few 3 (accepted-second (refuse 2) (refuse 3) rest)
+
+  -- so it is fine
+  pub counts-fine : countRefusal form rs ≡ fine
+  counts-fine = rw (transactions-counted, tasks-counted, pairs-counted)
+
+-- faultless records are fine
+pub faultless-fine : (form : Form) (rs : List (List ℕ)) → Faultless form rs → recordsVerdict form rs ≡ fine
+unfolding recordsVerdict
+faultless-fine form rs f =
+    fine-both (formRefusal form rs) (orElse (orderRefusal form rs) (orElse (rangeRefusal form rs) (countRefusal form rs)))
+    (fine-at (numbered form 4) (λ k. formWrong form (getD rs k [])) (length rs) (f .forms))
+    (fine-both (orderRefusal form rs) (orElse (rangeRefusal form rs) (countRefusal form rs))
+    (fine-at (numbered form 5) (orderWrong rs) (length rs) (f .orders))
+    (fine-both (rangeRefusal form rs) (countRefusal form rs)
+    (fine-at (numbered form 6) (λ k. rangeWrong (getD rs k [])) (length rs) (f .ranges))
+    (counts-fine form rs (f .counts))))
+
+-- each record is after the one before it, so the image's order rises
+pub faultless-order : (form : Form) (rs : List (List ℕ)) → Faultless form rs → Rises imageKey rs
+faultless-order form rs f = rises-of-next imageKey rs (λ k some m. order-right rs k (f .orders k m) some)
 
 -- what it says of records that they are faultless, whether they are bytes or not
-module _ (rs : List (List ℕ)) (f : Faultless rs) where
+module _ (rs : List (List ℕ)) (f : Faultless Table rs) where
   -- byte 31 is 0 throughout, also past the end
   pub faultless-ways : (k : ℕ) → wayOf (getD rs k []) ≡ 0
   faultless-ways k =
@@ -122,20 +146,20 @@ module _ (rs : List (List ℕ)) (f : Faultless rs) where
   -- with byte 31 at 0, the image's order is table order
   pub faultless-rises : Rises key rs
   faultless-rises i j b l =
-      omega (arith, rises-of-next imageKey rs (λ k some m. order-right rs k (f .orders k m) some) i j b l, faultless-ways i, faultless-ways j)
+      omega (arith, faultless-order Table rs f i j b l, faultless-ways i, faultless-ways j)
 
   -- there are at most 16 transactions, 64 tasks and 256 pairs
   pub few-transactions : length (transactions rs) ≤ 16
-  few-transactions = rw (← count-ofKind rs faultless-ways 1) (count-transactions rs (f .counts))
+  few-transactions = rw (← count-ofKind rs faultless-ways 1) (not-too-many rs 1 (transactions-counted Table rs (f .counts)) .0)
 
   pub few-tasks : taskCount rs ≤ 64
-  few-tasks = rw (← count-ofKind rs faultless-ways 2) (count-tasks rs (f .counts))
+  few-tasks = rw (← count-ofKind rs faultless-ways 2) (not-too-many rs 2 (tasks-counted Table rs (f .counts)) .0)
 
   pub few-pairs : length (pairs rs) ≤ 256
-  few-pairs = rw (← count-ofKind rs faultless-ways 3) (count-pairs rs (f .counts))
+  few-pairs = rw (← count-ofKind rs faultless-ways 3) (not-too-many rs 3 (pairs-counted Table rs (f .counts)) .0)
 
 -- faultless records of bytes have this shape
-module _ (rs : List (List ℕ)) (bytes : (k : ℕ) → Bytes (getD rs k [])) (f : Faultless rs) where
+module _ (rs : List (List ℕ)) (bytes : (k : ℕ) → Bytes (getD rs k [])) (f : Faultless Table rs) where
   -- where the keys rise, the kinds do not fall
   grouped : Grouped rs
   grouped i j b l = kind-rises (getD rs i []) (getD rs j []) (bytes j) (faultless-rises rs f i j b l)
@@ -183,7 +207,7 @@ module _ (rs : List (List ℕ)) (bytes : (k : ℕ) → Bytes (getD rs k [])) (f 
 
 -- accepted records of bytes have this shape
 pub shape-of-records : (rs : List (List ℕ)) → ((k : ℕ) → Bytes (getD rs k [])) → accepted (recordsVerdict Table rs) ≡ true → Shape rs
-shape-of-records rs bytes h = shape-of-faultless rs bytes (faultless-of rs h)
+shape-of-records rs bytes h = shape-of-faultless rs bytes (faultless-of Table rs h)
 
 -- each record of an image of bytes is of bytes
 pub record-bytes : (image : List ℕ) → Bytes image → (k : ℕ) → Bytes (recordAt image k)
