@@ -9,7 +9,7 @@ use Rattle.rules.specs.declared.Form.the-variants.{Table, Patch}
 use Rattle.rules.specs.Numbers.{Bytes}
 use Rattle.rules.specs.Blocks.{blockCount, blockAt, checkWrong}
 use Rattle.rules.specs.Refusals.{accepted, refusal, numbered, frameVerdict, tableVerdict, patchVerdict, imageVerdict}
-use Rattle.rules.specs.Calls.{mapVerdict, mapAfter, boundVerdict, reasonVerdict, patchCallVerdict}
+use Rattle.rules.specs.Calls.{mapVerdict, mapAfter, boundVerdict, reasonVerdict, patchCallVerdict, reverseVerdict}
 use Rattle.rules.specs.Cable.{changedOver, Caught}
 use Rattle.rules.proofs.Image.Frame.{frame-accepted, frame-of, length-blockAt}
 use Rattle.rules.proofs.Cable.Blocks.{OneBlockWrong, byte-wrong, neighbours-wrong, frame-refused}
@@ -20,7 +20,7 @@ pub mod Cancelled
 
 -- a refusal of the frame with 2 at block b is what every call answers
 frame-caught : (form : Form) (image : List ℕ) (b : ℕ) → frameVerdict form image ≡ refusal (numbered form 2) b → Caught form image b
-unfolding tableVerdict patchVerdict mapVerdict mapAfter boundVerdict reasonVerdict patchCallVerdict
+unfolding tableVerdict patchVerdict mapVerdict mapAfter boundVerdict reasonVerdict patchCallVerdict reverseVerdict
 frame-caught Table image b h =
     record {
       verdict = rw h;
@@ -36,6 +36,7 @@ frame-caught Patch image b h =
     record {
       verdict = rw h;
       patch-call = λ base rows room newRows table. (rw (table, h), rw (table, h), rw (table, h), rw (table, h));
+      reverse-call = λ room. (rw h, rw h);
     }
 
 -- an accepted image of bytes, a table or a patch, and one of its blocks

@@ -8,7 +8,7 @@ use Rattle.rules.specs.declared.Form.{Form}
 use Rattle.rules.specs.declared.Form.the-variants.{Table, Patch}
 use Rattle.rules.specs.declared.Bounds.{Bounds}
 use Rattle.rules.specs.Refusals.{accepted, refusal, tableVerdict, patchVerdict}
-use Rattle.rules.specs.Calls.{mapVerdict, mapAfter, boundRefusal, BoundCall, reasonRefusal, reasonAnswer, patchCallVerdict, patchAnswer, roomAfter, patchedAfter, offending}
+use Rattle.rules.specs.Calls.{mapVerdict, mapAfter, boundRefusal, BoundCall, reasonRefusal, reasonAnswer, patchCallVerdict, patchAnswer, roomAfter, patchedAfter, offending, reverseRefusal, reverseAnswer, reverseAfter}
 
 -- bytes i and i + 1 changed over with each other
 abbrev pub changedOver : List ℕ → ℕ → List ℕ
@@ -33,11 +33,13 @@ pub record TableCaught (image : List ℕ) (b : ℕ) : Type 0 where
   pub reason-call : (low high : ℕ) → reasonAnswer image low high ≡ reasonRefusal (refusal 2 b)
   pub base : (patch rows room newRows : List ℕ) → PatchCallRefused 2 b image patch rows room newRows
 
--- a patch is refused with 22 at block b: by its verdict, and by every patch call on an accepted base, whatever else is lent
+-- a patch is refused with 22 at block b: by its verdict, by every patch call on an accepted base, and by every reverse call,
+-- whatever else is lent
 pub record PatchCaught (image : List ℕ) (b : ℕ) : Type 0 where
   pub verdict : patchVerdict image ≡ refusal 22 b
   pub patch-call :
       (base rows room newRows : List ℕ) → accepted (tableVerdict base) ≡ true → PatchCallRefused 22 b base image rows room newRows
+  pub reverse-call : (room : List ℕ) → (reverseAnswer image room ≡ reverseRefusal (refusal 22 b)) × (reverseAfter image room ≡ room)
 
 -- an image of this form is refused so
 abbrev pub Caught : Form → List ℕ → ℕ → Type 0

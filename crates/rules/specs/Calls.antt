@@ -5,17 +5,18 @@ use mathlib.Core.Bool.{true, false, cond, _||_, not}
 use mathlib.Core.Path.{_≡_}
 use lib.ListN.{length, drop}
 use lib.Dec.{ltb, eqb}
-use Rattle.rules.specs.declared.Form.the-variants.{Table}
+use Rattle.rules.specs.declared.Form.the-variants.{Table, Patch}
 use Rattle.rules.specs.declared.Verdict.{Verdict}
 use Rattle.rules.specs.declared.Bounds.{Bounds}
 use Rattle.rules.specs.declared.Patched.{Patched}
 use Rattle.rules.specs.declared.Reasoned.{Reasoned}
+use Rattle.rules.specs.declared.Reversed.{Reversed}
 use Rattle.rules.specs.Blocks.{records, recordAt, blocksFor, imageOf}
 use Rattle.rules.specs.Records.{tasks, taskCount, placeOf, listed}
 use Rattle.rules.specs.Reasons.{told}
 use Rattle.rules.specs.Preempt.{reasonAt, mapOf}
 use Rattle.rules.specs.Chains.{Figures, FiguresOf, chainBound, chainIds}
-use Rattle.rules.specs.Patches.{outcome, touchedCount, patchedMap}
+use Rattle.rules.specs.Patches.{outcome, reversed, touchedCount, patchedMap}
 use Rattle.rules.specs.Refusals.{accepted, orElse, tableVerdict, patchVerdict, absentRefusal, outcomeRefusal, shortRefusal, unlistedRefusal}
 
 -- a buffer with these values written over its start; what lies beyond them keeps its values
@@ -128,3 +129,25 @@ patchedAfter v base patch rows newRows = after v (patchedMap (records base) (rec
 -- with refusal 9 the offending 32 bytes of the patch image, in every other case none
 abbrev pub offending : Verdict → List ℕ → List ℕ
 offending v patch = cond (eqb (v .number) 9) (recordAt patch (v .place)) []
+
+-- a reverse call answers 21-27, then 11: the room must hold as many bytes as the patch
+unfoldable pub reverseVerdict : List ℕ → List ℕ → Verdict
+reverseVerdict patch room = orElse (patchVerdict patch) (shortRefusal (ltb (length room) (length patch)))
+
+abbrev pub reverseRefusal : Verdict → Reversed
+reverseRefusal v = record { number = v .number; place = v .place; length = 0 }
+
+-- the length in bytes is returned, which is the patch's
+abbrev pub reverseAnswer : List ℕ → List ℕ → Reversed
+reverseAnswer patch room =
+    cond (accepted (reverseVerdict patch room))
+    (record { number = 0; place = 0; length = length patch })
+    (reverseRefusal (reverseVerdict patch room))
+
+-- the reverse of a patch, as a patch image
+abbrev pub reverseOf : List ℕ → List ℕ
+reverseOf patch = imageOf Patch (reversed (records patch))
+
+-- the room afterwards
+abbrev pub reverseAfter : List ℕ → List ℕ → List ℕ
+reverseAfter patch room = after (reverseVerdict patch room) (reverseOf patch) room

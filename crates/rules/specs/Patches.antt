@@ -1,6 +1,6 @@
--- Patches: the outcome of a patch, touched tasks and the carried map, on records.
+-- Patches: the outcome of a patch, its reverse, touched tasks and the carried map, on records.
 use Prim.Native.Nat.{ℕ}
-use mathlib.Core.List.{List, [], _∷_, foldr}
+use mathlib.Core.List.{List, [], _∷_, _++_, foldr}
 use mathlib.Core.Bool.{Bool, true, false, cond, _&&_, _||_}
 use lib.ListN.{length, getD, set}
 use lib.Dec.{leb, eqb}
@@ -43,6 +43,16 @@ put r (s ∷ rs) = cond (leb (key r) (key s)) (r ∷ s ∷ rs) (s ∷ put r rs)
 -- the base's records without those taken out and with those put in, in table order
 abbrev pub outcome : List (List ℕ) → List (List ℕ) → List (List ℕ)
 outcome base patch = foldr put (without (takenOut patch) base) (putIn patch)
+
+-- these records, each with this byte 31
+unfoldable pub withWay : ℕ → List (List ℕ) → List (List ℕ)
+withWay way [] = []
+withWay way (r ∷ rs) = set r 31 way ∷ withWay way rs
+
+-- the reverse of a patch: first what the patch puts in, which is taken out, so byte 31 is 0; then what it takes out, which
+-- is put in, so byte 31 becomes 1
+abbrev pub reversed : List (List ℕ) → List (List ℕ)
+reversed patch = putIn patch ++ withWay 1 (takenOut patch)
 
 -- the patch record is this task's record, names it in a pair, or is its transaction's record
 abbrev pub concerns : List ℕ → List ℕ → Bool

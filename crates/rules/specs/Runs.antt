@@ -1,4 +1,5 @@
 -- Demand 3: a run of patches, each applied to what the last accepted one left, and the same worked out afresh from records.
+-- A patch is taken off again by a run of two: the patch, then its reverse.
 use Prim.Native.Nat.{ℕ}
 use mathlib.Core.List.{List, [], _∷_}
 use mathlib.Core.Bool.{Bool, true, cond, _&&_}
@@ -11,7 +12,7 @@ use Rattle.rules.specs.Blocks.{records, imageOf}
 use Rattle.rules.specs.Preempt.{mapOf}
 use Rattle.rules.specs.Patches.{outcome}
 use Rattle.rules.specs.Refusals.{accepted, tableVerdict, patchVerdict, absentRefusal}
-use Rattle.rules.specs.Calls.{over, patchCallVerdict, outcomeLength, roomAfter, patchedAfter}
+use Rattle.rules.specs.Calls.{over, patchCallVerdict, outcomeLength, roomAfter, patchedAfter, reverseOf}
 
 -- one patch of a run, with the rooms that are lent for it
 pub record Step : Type 0 where
@@ -66,3 +67,33 @@ abbrev pub Demand3 : List ℕ → List ℕ → List Step → Type 0
 Demand3 image rows ps =
     Bytes image → accepted (tableVerdict image) ≡ true → rows ≡ over (mapOf (records image)) rows
     → calls (record { image = image; rows = rows }) ps ≡ afreshAfter (records image) rows ps
+
+-- the reverse of a step's patch, with other rooms lent for it
+abbrev pub back : Step → List ℕ → List ℕ → Step
+back p room rows = record { patch = reverseOf (p .patch); room = room; rows = rows }
+
+-- of a table with its map and a patch that is accepted there: what the reverse does to the outcome, with any map lent
+pub record TakenOff (s : State) (p : Step) : Type 0 where
+  -- it is accepted exactly when the lent map and rooms suffice
+  pub accepted-back :
+      (lent room rows : List ℕ)
+      → accepted (patchCallVerdict (called s p .image) (reverseOf (p .patch)) lent room rows)
+      ≡ (leb 64 (length lent) && (leb 64 (length rows) && leb (length (s .image)) (length room)))
+  -- and then gives the table back, byte for byte
+  pub image-back :
+      (lent room rows : List ℕ)
+      → accepted (patchCallVerdict (called s p .image) (reverseOf (p .patch)) lent room rows) ≡ true
+      → called (record { image = called s p .image; rows = lent }) (back p room rows) .image ≡ s .image
+  -- with the table's true map at first, and what the patch made of it lent, its 64 rows are given back
+  pub rows-back :
+      (room rows : List ℕ)
+      → s .rows ≡ over (mapOf (records (s .image))) (s .rows)
+      → accepted (patchCallVerdict (called s p .image) (reverseOf (p .patch)) (called s p .rows) room rows) ≡ true
+      → called (called s p) (back p room rows) .rows ≡ over (take 64 (s .rows)) rows
+
+-- request k): whatever is accepted can be taken off again
+abbrev pub TakesOff : State → Step → Type 0
+TakesOff s p =
+    Bytes (s .image) → Bytes (p .patch)
+    → accepted (patchCallVerdict (s .image) (p .patch) (s .rows) (p .room) (p .rows)) ≡ true
+    → TakenOff s p

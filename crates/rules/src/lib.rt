@@ -81,3 +81,11 @@ pub struct Reasoned {
     pub place: u32,
     pub reason: u32,
 }
+
+// What a reverse call returns. A refused call has number and place, and length 0.
+#[repr(C)]
+pub struct Reversed {
+    pub number: u32,
+    pub place: u32,
+    pub length: u32,
+}
