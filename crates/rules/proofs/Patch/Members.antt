@@ -1,10 +1,10 @@
 -- Which records stand in a list: those of a part taken out, of a record put in, of one kind, and of the outcome of a patch.
-use Prim.Native.Nat.{ℕ, zero, suc, _<_}
+use Prim.Native.Nat.{ℕ, zero, suc, _≤_, _<_}
 use mathlib.Core.List.{List, [], _∷_, foldr}
-use mathlib.Core.Bool.{true, false, _&&_, _||_, not}
+use mathlib.Core.Bool.{true, false, _&&_, _||_, not, or-true}
 use mathlib.Core.Path.{_≡_, refl, sym, _∙_}
 use native.Mathlib.Omega.{arith}
-use borrow.Author.Tests.{eqb-true, eq-eqb}
+use borrow.Author.Tests.{eqb-true, eq-eqb, le-leb}
 use lib.ListN.{length, getD, set}
 use lib.Dec.{eqb, leb}
 use Rattle.rules.specs.Records.{kindOf, wayOf, key, ofKind}
@@ -37,6 +37,22 @@ same-sym r s =
     either (same r s)
     (λ t. t ∙ sym (rw (same-equal r s t) (same-refl s)))
     (λ t. t ∙ sym (same-other s r (λ e. never (same r s) (rw e (same-refl r)) t)))
+
+-- the first record of a list stands in it
+pub has-first : (r : List ℕ) (rs : List (List ℕ)) → has (r ∷ rs) r ≡ true
+unfolding has
+has-first r rs = rw (same-refl r)
+
+-- and so do those behind it
+pub has-more : (s : List ℕ) (rs : List (List ℕ)) (r : List ℕ) → has rs r ≡ true → has (s ∷ rs) r ≡ true
+unfolding has
+has-more s rs r h = rw h (or-true (same s r))
+
+-- a record is put in front of records that are not below it
+pub put-front : (r : List ℕ) (rs : List (List ℕ)) → ((s : List ℕ) → has rs s ≡ true → key r ≤ key s) → put r rs ≡ r ∷ rs
+unfolding put
+put-front r [] least = refl
+put-front r (s ∷ rs) least = rw (le-leb (key r) (key s) (least s (has-first s rs)))
 
 -- a record of a list stands in it
 pub has-at : (rs : List (List ℕ)) (k : ℕ) → k < length rs → has rs (getD rs k []) ≡ true

@@ -40,16 +40,16 @@ module _ (rs : List (List ℕ)) (rows : List ℕ) where
       ∙ omega (arith, map-length (taskCount rs) (decided rs), length-drop (length (mapOf rs)) rows)
 
   -- and written once more it changes nothing
-  over-again : over (mapOf rs) rows ≡ over (mapOf rs) (over (mapOf rs) rows)
+  pub over-again : over (mapOf rs) rows ≡ over (mapOf rs) (over (mapOf rs) rows)
   over-again = rw (drop-append-seam (mapOf rs) (drop (length (mapOf rs)) rows))
 
 -- what an accepted patch leaves of a base with these records and this map
-abbrev patchedState : List (List ℕ) → List (List ℕ) → List ℕ → List ℕ → State
+abbrev pub patchedState : List (List ℕ) → List (List ℕ) → List ℕ → List ℕ → State
 patchedState rs ps rows newRows =
     record { image = imageOf Table (outcome rs ps); rows = over (patchedMap rs ps rows) newRows }
 
 -- a call that is accepted leaves that
-called-accepted : (s : State) (p : Step) → Records (outcome (records (s .image)) (records (p .patch)))
+pub called-accepted : (s : State) (p : Step) → Records (outcome (records (s .image)) (records (p .patch)))
     → accepted (patchCallVerdict (s .image) (p .patch) (s .rows) (p .room) (p .rows)) ≡ true
     → called s p ≡ patchedState (records (s .image)) (records (p .patch)) (s .rows) (p .rows)
 called-accepted s p sized taken =

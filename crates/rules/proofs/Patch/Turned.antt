@@ -82,7 +82,7 @@ module _ (p : List ℕ) (way : ℕ) where
   turned-way long = getD-set-same p 31 way 0 long
 
   -- and is never above it
-  way-within : wayOf (set p 31 way) ≤ way
+  pub way-within : wayOf (set p 31 way) ≤ way
   way-within =
       either (ltb 31 (length p))
       (λ t. omega (arith, turned-way (ltb-true 31 (length p) t)))

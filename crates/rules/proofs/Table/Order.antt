@@ -68,11 +68,11 @@ pub number-rises : (r s : List ℕ) (k : ℕ) → kindOf r ≡ k → kindOf s �
 number-rises r s k e e′ other h = omega (arith, simp (ne-eqb (kindOf r) 3 (λ o. omega arith), ne-eqb (kindOf s) 3 (λ o. omega arith)) at h)
 
 -- what rises in a list rises in the list behind its first record
-rises-rest : (f : List ℕ → ℕ) (r : List ℕ) (rs : List (List ℕ)) → Rises f (r ∷ rs) → Rises f rs
+pub rises-rest : (f : List ℕ → ℕ) (r : List ℕ) (rs : List (List ℕ)) → Rises f (r ∷ rs) → Rises f rs
 rises-rest f r rs rises i j b l = rises (suc i) (suc j) (omega arith) (omega arith)
 
 -- a list that rises still rises behind a record that is below each of its records
-rises-front : (f : List ℕ → ℕ) (r : List ℕ) (rs : List (List ℕ)) → Rises f rs
+pub rises-front : (f : List ℕ → ℕ) (r : List ℕ) (rs : List (List ℕ)) → Rises f rs
     → ((i : ℕ) → i < length rs → f r < f (getD rs i [])) → Rises f (r ∷ rs)
 rises-front f r rs rises above i zero b l = absurd (omega arith)
 rises-front f r rs rises above zero (suc j) b l = above j (omega arith)
