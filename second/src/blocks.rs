@@ -48,6 +48,11 @@ impl Form {
         }
     }
 
+    /// The most bytes that an image of this form may have.
+    pub fn most_bytes(self) -> usize {
+        self.most_blocks() * BLOCK_BYTES
+    }
+
     /// The form that this one is not.
     pub fn other(self) -> Form {
         match self {

@@ -6,7 +6,7 @@ use std::io::{self, BufReader, BufWriter, Read, Write};
 use std::process::ExitCode;
 
 use second::answer::answer;
-use second::blocks::{image_of, Form, BLOCK_BYTES};
+use second::blocks::{image_of, Form};
 use second::cable::cancelled;
 use second::figure2::{figure2, thresholds, unmeasured};
 use second::generate::{write_stream, Wanted};
@@ -103,9 +103,9 @@ fn run(command: Command) -> io::Result<()> {
 
 /// The input up to one byte past the longest table; the rest is read and dropped.
 fn read_image(input: &mut impl Read) -> io::Result<Vec<u8>> {
-    let longest = Form::Table.most_blocks() * BLOCK_BYTES;
+    let longest = Form::Table.most_bytes() as u64;
     let mut image = Vec::new();
-    input.take(longest as u64 + 1).read_to_end(&mut image)?;
+    input.take(longest + 1).read_to_end(&mut image)?;
     io::copy(input, &mut io::sink())?;
     Ok(image)
 }

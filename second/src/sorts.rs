@@ -3,7 +3,7 @@
 use std::collections::BTreeSet;
 
 use crate::afresh::touched_ids;
-use crate::blocks::{records_in, Form, BLOCK_BYTES};
+use crate::blocks::{records_in, Form};
 use crate::patch_call::patch_call;
 use crate::preempt::{is_set, true_map, MAP_ROWS};
 use crate::records::{Pair, Record, Task, MISSING_JITTER, TRANSACTION};
@@ -167,7 +167,7 @@ struct Tried {
 impl Tried {
     /// The call as it goes with maps and a room that are long enough, if it is accepted then.
     fn of(case: &Case) -> Option<Tried> {
-        let mut room = vec![0; Form::Table.most_blocks() * BLOCK_BYTES];
+        let mut room = vec![0; Form::Table.most_bytes()];
         let (map, mut new_map) = ([0; MAP_ROWS], [0; MAP_ROWS]);
         let tried = patch_call(&case.image, &case.patch, &map, &mut room, &mut new_map);
         let length = tried.ok()?.length;

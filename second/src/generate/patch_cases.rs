@@ -157,8 +157,6 @@ fn needed_length(case: &Case) -> usize {
     let mut tried = case.clone();
     tried.map_read.resize(MAP_ROWS, 0);
     tried.map_written.resize(MAP_ROWS, 0);
-    tried
-        .room
-        .resize(Form::Table.most_blocks() * BLOCK_BYTES, 0);
+    tried.room.resize(Form::Table.most_bytes(), 0);
     outcome_length(&mut tried).unwrap_or(BLOCK_BYTES)
 }
