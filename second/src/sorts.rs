@@ -1,307 +1,45 @@
-//! Which sorts of patch call a stream holds, so that a comparison can be seen to meet each of them.
+//! Which sorts of call a stream holds, so that a comparison can be seen to meet each of them.
 
-use std::collections::BTreeSet;
+mod patch_calls;
 
-use crate::afresh::touched_ids;
-use crate::blocks::{records_in, Form};
-use crate::patch_call::patch_call;
-use crate::preempt::{is_set, true_map, MAP_ROWS};
-use crate::records::{Pair, Record, Task, MISSING_JITTER, TRANSACTION};
+use std::collections::{BTreeMap, BTreeSet};
+
+use crate::records::Record;
 use crate::stream::{Call, Case};
-use crate::table::Table;
 
-/// A sort of patch call. Where a sort says that a map or the room is too short, nothing else is.
-#[derive(Clone, Copy)]
-enum Sort {
-    UnchangedPutBack,
-    PeriodChanged,
-    CellChangedByPeriod,
-    OnlyPeriodChanged,
-    JitterRewritten,
-    OnlyThresholdChanged,
-    ThresholdRewritten,
-    PairTakenOut,
-    PairPutIn,
-    TaskMoved,
-    SetCellMoved,
-    WrongCellCarried,
-    RoomLeaving(usize),
-    RoomLacking(usize),
-    BaseRows(usize),
-    NewRows(usize),
-}
+/// The name of a sort, and whether a call is of it.
+type Told = (String, bool);
 
-/// Every sort that a comparison is to meet.
-const SORTS: [Sort; 20] = [
-    Sort::UnchangedPutBack,
-    Sort::PeriodChanged,
-    Sort::CellChangedByPeriod,
-    Sort::OnlyPeriodChanged,
-    Sort::JitterRewritten,
-    Sort::OnlyThresholdChanged,
-    Sort::ThresholdRewritten,
-    Sort::PairTakenOut,
-    Sort::PairPutIn,
-    Sort::TaskMoved,
-    Sort::SetCellMoved,
-    Sort::WrongCellCarried,
-    Sort::RoomLeaving(0),
-    Sort::RoomLacking(1),
-    Sort::BaseRows(63),
-    Sort::BaseRows(64),
-    Sort::BaseRows(70),
-    Sort::NewRows(63),
-    Sort::NewRows(64),
-    Sort::NewRows(70),
-];
-
-impl Sort {
-    /// What the sort is called.
-    fn name(self) -> String {
-        match self {
-            Sort::UnchangedPutBack => "an unchanged record put back".into(),
-            Sort::PeriodChanged => "a period changed under a task".into(),
-            Sort::CellChangedByPeriod => "a cell changed by a period alone".into(),
-            Sort::OnlyPeriodChanged => "nothing but a period changed under a missing jitter".into(),
-            Sort::JitterRewritten => {
-                "a missing jitter and the period written for it exchanged".into()
-            }
-            Sort::OnlyThresholdChanged => "nothing but a threshold changed".into(),
-            Sort::ThresholdRewritten => {
-                "a threshold of 0 and the priority written for it exchanged".into()
-            }
-            Sort::PairTakenOut => "a pair taken out".into(),
-            Sort::PairPutIn => "a pair put in".into(),
-            Sort::TaskMoved => "a task moved by another's coming".into(),
-            Sort::SetCellMoved => "a set cell moved in row and column".into(),
-            Sort::WrongCellCarried => "a wrong cell carried".into(),
-            Sort::RoomLeaving(bytes) => format!("a room that leaves {bytes} bytes"),
-            Sort::RoomLacking(bytes) => format!("a room that lacks {bytes} byte"),
-            Sort::BaseRows(rows) => format!("a base map of {rows} rows"),
-            Sort::NewRows(rows) => format!("a new map of {rows} rows"),
-        }
-    }
-
-    /// Whether the call is of this sort.
-    fn holds(self, call: &Tried) -> bool {
-        let fits = call.short() == [false; 3];
-        let (base_rows, new_rows) = (call.case.map_read.len(), call.case.map_written.len());
-        let room = call.case.room.len();
-        match self {
-            Sort::UnchangedPutBack => fits && call.puts_back_unchanged(),
-            Sort::PeriodChanged => fits && call.changes_a_period(),
-            Sort::CellChangedByPeriod => fits && call.changes_a_cell_by_period(),
-            Sort::OnlyPeriodChanged => fits && call.changes_nothing_but_a_period(),
-            Sort::JitterRewritten => fits && call.rewrites_a_jitter(),
-            Sort::OnlyThresholdChanged => fits && call.changes_nothing_but_a_threshold(),
-            Sort::ThresholdRewritten => fits && call.rewrites_a_threshold(),
-            Sort::PairTakenOut => fits && has_further_pair(&call.base, &call.outcome),
-            Sort::PairPutIn => fits && has_further_pair(&call.outcome, &call.base),
-            Sort::TaskMoved => fits && call.moves_a_task(),
-            Sort::SetCellMoved => fits && call.moves_a_set_cell(),
-            Sort::WrongCellCarried => fits && call.carries_a_wrong_cell(),
-            Sort::RoomLeaving(bytes) => fits && room == call.length + bytes,
-            Sort::RoomLacking(bytes) => {
-                call.short() == [false, false, true] && room + bytes == call.length
-            }
-            Sort::BaseRows(rows) => {
-                call.short() == [rows < MAP_ROWS, false, false] && base_rows == rows
-            }
-            Sort::NewRows(rows) => {
-                call.short() == [false, rows < MAP_ROWS, false] && new_rows == rows
-            }
-        }
-    }
-}
-
-/// How many patch calls there were, and how many of each sort.
+/// How many calls of each sort there were, by the call's letter and in the order of its sorts.
 #[derive(Default)]
 pub struct Sorts {
-    calls: usize,
-    counts: [usize; SORTS.len()],
+    counts: BTreeMap<(u8, usize), (String, usize)>,
 }
 
 impl Sorts {
-    /// Counts the case if it is a patch call.
+    /// Counts the case for every sort that its call has.
     pub fn count(&mut self, case: &Case) {
-        if case.call != Call::Patch {
-            return;
-        }
-        self.calls += 1;
-        if let Some(call) = Tried::of(case) {
-            for (count, sort) in self.counts.iter_mut().zip(SORTS) {
-                *count += usize::from(sort.holds(&call));
-            }
-        }
-    }
-
-    /// A line for each sort with its number of calls, or none where there was no patch call.
-    pub fn lines(&self) -> String {
-        let counted = self.counts.iter().zip(SORTS);
-        match self.calls {
-            0 => String::new(),
-            _ => counted
-                .map(|(count, sort)| format!("{count} {}\n", sort.name()))
-                .collect(),
-        }
-    }
-}
-
-/// Where a task stands in the base and in the outcome.
-type Places = (usize, usize);
-
-/// A patch call that nothing refuses but a map or room too short, and what it is about.
-struct Tried {
-    case: Case,
-    base: Table,
-    outcome: Table,
-    patch: Vec<Record>,
-    /// Bytes of the outcome's image.
-    length: usize,
-    /// The tasks that are not touched.
-    untouched: Vec<Places>,
-    /// The tasks that are not touched, or by their transaction's record alone.
-    steady: Vec<Places>,
-}
-
-impl Tried {
-    /// The call as it goes with maps and a room that are long enough, if it is accepted then.
-    fn of(case: &Case) -> Option<Tried> {
-        let mut room = vec![0; Form::Table.most_bytes()];
-        let (map, mut new_map) = ([0; MAP_ROWS], [0; MAP_ROWS]);
-        let tried = patch_call(&case.image, &case.patch, &map, &mut room, &mut new_map);
-        let length = tried.ok()?.length;
-        let records = records_in(&room[..length]);
-        let base = Table::read(&records_in(&case.image));
-        let patch = records_in(&case.patch);
-        let no_transaction = |record: &&Record| record.kind() != TRANSACTION;
-        let others: Vec<Record> = patch.iter().filter(no_transaction).copied().collect();
-        Some(Tried {
-            case: case.clone(),
-            untouched: places_without(&base, &records, &touched_ids(&records, &patch)),
-            steady: places_without(&base, &records, &touched_ids(&records, &others)),
-            base,
-            outcome: Table::read(&records),
-            patch,
-            length,
-        })
-    }
-
-    /// Whether the base map, the new map and the room are too short.
-    fn short(&self) -> [bool; 3] {
-        [
-            self.case.map_read.len() < MAP_ROWS,
-            self.case.map_written.len() < MAP_ROWS,
-            self.case.room.len() < self.length,
-        ]
-    }
-
-    /// Whether a record is taken out and put in again as it was.
-    fn puts_back_unchanged(&self) -> bool {
-        let as_listed = self.patch.iter().map(|record| record.with_way(0));
-        as_listed.collect::<BTreeSet<Record>>().len() < self.patch.len()
-    }
-
-    /// Whether the period changes of a task that nothing else touches.
-    fn changes_a_period(&self) -> bool {
-        self.some_steady_task(|task| self.has_other_period(task))
-    }
-
-    /// Whether a decision between two such tasks changes.
-    fn changes_a_cell_by_period(&self) -> bool {
-        let (old, new) = (true_map(&self.base), true_map(&self.outcome));
-        some_cell(&self.steady, |row, cell| {
-            is_set(&old, row.0, cell.0) != is_set(&new, row.1, cell.1)
-        })
-    }
-
-    /// Whether the patch is the two records of a changed period, and a task under it has no jitter.
-    fn changes_nothing_but_a_period(&self) -> bool {
-        let is_missing = |task: &Task| task.jitter == MISSING_JITTER;
-        self.patch.len() == 2
-            && self.some_steady_task(|task| is_missing(task) && self.has_other_period(task))
-    }
-
-    /// Whether a task changes in the bytes of its jitter alone, and not in what they are read as.
-    fn rewrites_a_jitter(&self) -> bool {
-        let rewritten = self.base.jitters_rewritten();
-        let is_rewritten = |new: &Task| rewritten.contains(new) && !self.has_other_period(new);
-        self.outcome.tasks.iter().any(is_rewritten)
-    }
-
-    /// Whether the patch is the two records of a task whose threshold alone is read as another.
-    fn changes_nothing_but_a_threshold(&self) -> bool {
-        let has_other_threshold = |old: &Task, new: &Task| {
-            let threshold = new.threshold;
-            Task { threshold, ..*old } == *new && old.read_threshold() != new.read_threshold()
+        let told = match case.call {
+            Call::Patch => patch_calls::told(case),
+            _ => Vec::new(),
         };
-        let mut tasks = self.base.tasks.iter().zip(&self.outcome.tasks);
-        self.patch.len() == 2 && tasks.any(|(old, new)| has_other_threshold(old, new))
+        for (rank, (name, holds)) in told.into_iter().enumerate() {
+            let counted = self.counts.entry((case.call.letter(), rank));
+            counted.or_insert((name, 0)).1 += usize::from(holds);
+        }
     }
 
-    /// Whether a task changes in the byte of its threshold alone, and not in what it is read as.
-    fn rewrites_a_threshold(&self) -> bool {
-        let rewritten = self.base.thresholds_rewritten();
-        let is_rewritten = |new: &Task| rewritten.contains(new);
-        self.outcome.tasks.iter().any(is_rewritten)
-    }
-
-    /// Whether some task that nothing but its transaction's record touches is as asked.
-    fn some_steady_task(&self, asked: impl Fn(&Task) -> bool) -> bool {
-        let tasks = &self.outcome.tasks;
-        self.steady.iter().any(|(_, place)| asked(&tasks[*place]))
-    }
-
-    /// Whether the period of this task's transaction is another one than in the base.
-    fn has_other_period(&self, task: &Task) -> bool {
-        let number = task.transaction;
-        self.base.period_of(number) != self.outcome.period_of(number)
-    }
-
-    /// Whether a task that is not touched comes to a later place.
-    fn moves_a_task(&self) -> bool {
-        self.untouched.iter().any(|(old, new)| old < new)
-    }
-
-    /// Whether a set cell is carried to another row and another column.
-    fn moves_a_set_cell(&self) -> bool {
-        some_cell(&self.untouched, |row, cell| {
-            row.0 != row.1 && cell.0 != cell.1 && is_set(&self.case.map_read, row.0, cell.0)
-        })
-    }
-
-    /// Whether a cell is carried that is not as the base decides it.
-    fn carries_a_wrong_cell(&self) -> bool {
-        let decided = true_map(&self.base);
-        some_cell(&self.untouched, |row, cell| {
-            is_set(&decided, row.0, cell.0) != is_set(&self.case.map_read, row.0, cell.0)
-        })
+    /// A line for each sort with its number of calls, for the calls that there were.
+    pub fn lines(&self) -> String {
+        let counted = self.counts.values();
+        counted
+            .map(|(name, count)| format!("{count} {name}\n"))
+            .collect()
     }
 }
 
-/// The places of the outcome's tasks that are none of these, each of which the base has too.
-fn places_without(base: &Table, outcome: &[Record], ids: &BTreeSet<u16>) -> Vec<Places> {
-    let tasks = Table::read(outcome).tasks;
-    let places = tasks.iter().enumerate().filter_map(|(new, task)| {
-        let old = base.place_of(task.id).filter(|_| !ids.contains(&task.id))?;
-        Some((old, new))
-    });
-    places.collect()
-}
-
-/// Whether the cell of some two of these tasks is as asked.
-fn some_cell(tasks: &[Places], asked: impl Fn(Places, Places) -> bool) -> bool {
-    tasks
-        .iter()
-        .any(|row| tasks.iter().any(|cell| asked(*row, *cell)))
-}
-
-/// Whether a table has a pair of tasks that the other has not.
-fn has_further_pair(table: &Table, other: &Table) -> bool {
-    let names = |pair: &Pair| (pair.first, pair.second);
-    let listed: BTreeSet<(u16, u16)> = other.pairs.iter().map(names).collect();
-    table
-        .pairs
-        .iter()
-        .any(|pair| !listed.contains(&names(pair)))
+/// Whether a patch takes a record out and puts it in again as it was.
+fn puts_back_unchanged(patch: &[Record]) -> bool {
+    let as_listed = patch.iter().map(|record| record.with_way(0));
+    as_listed.collect::<BTreeSet<Record>>().len() < patch.len()
 }
