@@ -8,7 +8,10 @@ use crate::patch_call::{patch_call, PatchRefusal, Patched};
 use crate::preempt::{all_reasons, MAP_ROWS};
 use crate::reason_call::reason_call;
 use crate::reasons::Reason;
+use crate::reverse_call::reverse_call;
+use crate::round_trip::RoundTrip;
 use crate::stream::question::Question;
+use crate::stream::step::Step;
 use crate::stream::{Call, Case};
 use crate::table::Table;
 use crate::verdict::{records_of_patch, records_of_table, Refusal};
@@ -25,8 +28,10 @@ pub fn answer(case: &mut Case) -> String {
         Call::Map => line(letter, map_numbers(case)),
         Call::Bound => line(letter, bound_numbers(case)),
         Call::Patch => line(letter, patch_numbers(case)),
-        Call::Run => line_afresh(case),
+        Call::Run => parts_afresh(case, &case.steps).concat(),
         Call::Reasons => line(letter, reason_numbers(case)) + &parts_of_questions(case),
+        Call::Reverse => line(letter, reverse_numbers(case)),
+        Call::RoundTrip => line_of_trip(case),
     }
 }
 
@@ -109,29 +114,58 @@ fn offending_part<'patch>(given: &Result<Patched, PatchRefusal<'patch>>) -> &'pa
     given.err().map_or(&[], |refused| refused.offending)
 }
 
-/// The line of a run with every step worked out afresh.
-fn line_afresh(case: &Case) -> String {
+/// The start of a line and a part for each of these steps, every one worked out afresh.
+fn parts_afresh(case: &Case, steps: &[Step]) -> Vec<String> {
     let start = Afresh::start(&case.image, &case.map_read);
-    let mut run = start.expect("a run starts from a valid table and its true map");
-    let mut line = start_of_run(&run.standing());
-    for step in &case.steps {
+    let mut run = start.expect("steps start from a valid table and its true map");
+    let mut parts = vec![start_of_steps(case.call, &run.standing())];
+    for step in steps {
         let given = run.step(step);
-        line += &part_of_run(&given, &run.standing());
+        parts.push(part_of_step(&given, &run.standing()));
     }
-    line
+    parts
 }
 
-/// The letter of a run and what stands at first.
-pub fn start_of_run(standing: &Standing) -> String {
-    line(char::from(Call::Run.letter()), standing_numbers(standing))
+/// The letter of a run or of a round trip and what stands at first.
+pub fn start_of_steps(call: Call, standing: &Standing) -> String {
+    line(char::from(call.letter()), standing_numbers(standing))
 }
 
-/// The part of a run's line for one step: what was given, and what stands after it.
-pub fn part_of_run(given: &Result<Patched, PatchRefusal>, standing: &Standing) -> String {
+/// The part of a line for one step: what was given, and what stands after it.
+pub fn part_of_step(given: &Result<Patched, PatchRefusal>, standing: &Standing) -> String {
     let mut numbers = patched_numbers(given);
     numbers.extend(offending_part(given).iter().map(|byte| u64::from(*byte)));
     numbers.extend(standing_numbers(standing));
     part(numbers)
+}
+
+/// The line of a round trip with every step worked out afresh.
+fn line_of_trip(case: &Case) -> String {
+    let RoundTrip { reverse, steps } = RoundTrip::of(case);
+    with_reverse(parts_afresh(case, &steps), &reverse)
+}
+
+/// The line of a round trip from its start, its steps and its reverse, which stands behind the way there.
+pub fn with_reverse(mut parts: Vec<String>, reverse: &Result<Vec<u8>, Refusal>) -> String {
+    let written = reverse.as_deref().unwrap_or_default();
+    let given = reverse.as_ref().map(Vec::len).map_err(|refusal| *refusal);
+    parts.insert(2, part(reversed_numbers(given, written)));
+    parts.concat()
+}
+
+fn reverse_numbers(case: &mut Case) -> Vec<u64> {
+    let given = reverse_call(&case.image, &mut case.room);
+    reversed_numbers(given, &case.room)
+}
+
+/// Number and place of a reverse call, the reverse's length, and the digest of these bytes.
+fn reversed_numbers(given: Result<usize, Refusal>, bytes: &[u8]) -> Vec<u64> {
+    let mut numbers = verdict_numbers(given);
+    numbers.extend([
+        given.unwrap_or_default() as u64,
+        digest::of_bytes(bytes.iter().copied()),
+    ]);
+    numbers
 }
 
 /// The digests of table and map, the bounds over that map with the chain's ids, and the rows of the tasks.

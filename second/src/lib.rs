@@ -26,6 +26,8 @@ pub mod reasons;
 pub mod record_faults;
 pub mod records;
 pub mod report;
+pub mod reverse_call;
+pub mod round_trip;
 pub mod sorts;
 pub mod stream;
 pub mod table;

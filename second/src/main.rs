@@ -20,7 +20,7 @@ use second::table::Table;
 const USAGE: &str =
     "usage: second bounds | reasons | generate SEED LETTERS COUNT | answer | sorts | figure2 \
                      | unmeasured | thresholds | heaviest | cancelled | patch NUMBER | case NUMBER \
-                     (LETTERS are some of T, P, M, B, A, R, W and L; NUMBER is 11, 12 or 13)";
+                     (LETTERS are some of T, P, M, B, A, R, W, V, U and L; NUMBER is 11, 12 or 13)";
 
 /// What the command line asks for.
 enum Command {

@@ -95,6 +95,14 @@ impl Record {
         self
     }
 
+    /// The record of a patch that is put in where this one is taken out, and the other way round.
+    pub fn turned(&self) -> Record {
+        self.with_way(match self.way() {
+            TAKEN_OUT => PUT_IN,
+            _ => TAKEN_OUT,
+        })
+    }
+
     /// Where the record belongs in the order of a table.
     pub fn key(&self) -> Key {
         let second = if self.kind() == PAIR {

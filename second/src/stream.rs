@@ -11,23 +11,13 @@ use crate::stream::parts::{
     broken, lengths_in, put_lengths, read_bytes, read_ids, read_rows, Length, MOST_IMAGE,
     MOST_ROOM, MOST_ROWS,
 };
-use crate::stream::step::Step;
+use crate::stream::step::{Step, LENT_BYTE, LENT_ROW};
 
 const HEADER_BYTES: usize = 32;
 /// The most ids of a room for them.
 const MOST_IDS: usize = 96;
 /// The most steps of a run.
 const MOST_STEPS: usize = 32;
-/// The lengths of a header, in the order in which what they count follows.
-const LENGTHS: [Length; 7] = [
-    (4, MOST_IMAGE),
-    (8, MOST_IMAGE),
-    (12, MOST_ROWS),
-    (16, MOST_ROWS),
-    (20, MOST_IDS),
-    (24, MOST_ROOM),
-    (28, MOST_STEPS),
-];
 
 /// The calls that a case can make.
 #[derive(Clone, Copy, PartialEq, Eq, Debug)]
@@ -39,6 +29,8 @@ pub enum Call {
     Patch,
     Run,
     Reasons,
+    Reverse,
+    RoundTrip,
 }
 
 impl Call {
@@ -52,6 +44,8 @@ impl Call {
             b'A' => Some(Call::Patch),
             b'R' => Some(Call::Run),
             b'W' => Some(Call::Reasons),
+            b'V' => Some(Call::Reverse),
+            b'U' => Some(Call::RoundTrip),
             _ => None,
         }
     }
@@ -66,7 +60,38 @@ impl Call {
             Call::Patch => b'A',
             Call::Run => b'R',
             Call::Reasons => b'W',
+            Call::Reverse => b'V',
+            Call::RoundTrip => b'U',
         }
+    }
+
+    /// The lengths of a header, in the order in which what they count follows; a reverse may take more
+    /// room than a table.
+    fn lengths(self) -> [Length; 7] {
+        let most_room = match self {
+            Call::Reverse => MOST_IMAGE,
+            _ => MOST_ROOM,
+        };
+        [
+            (4, MOST_IMAGE),
+            (8, MOST_IMAGE),
+            (12, MOST_ROWS),
+            (16, MOST_ROWS),
+            (20, MOST_IDS),
+            (24, most_room),
+            (28, MOST_STEPS),
+        ]
+    }
+
+    /// Whether the map and the room to be written stand in the stream; those of a round trip do not, as
+    /// each of its calls is lent new ones, filled as a step's are.
+    fn tells_what_is_written(self) -> bool {
+        self != Call::RoundTrip
+    }
+
+    /// Whether the case has to start from a valid table and its true map.
+    fn starts_from_truth(self) -> bool {
+        matches!(self, Call::Run | Call::RoundTrip)
     }
 }
 
@@ -74,6 +99,7 @@ impl Call {
 #[derive(Clone, PartialEq, Eq, Debug)]
 pub struct Case {
     pub call: Call,
+    /// The table, or the patch of a case that asks for a patch's verdict or its reverse.
     pub image: Vec<u8>,
     pub patch: Vec<u8>,
     /// The rows of the map that is read, or the questions of a case that asks for reasons.
@@ -112,17 +138,21 @@ impl Case {
         ];
         let mut header = [0; HEADER_BYTES];
         header[0] = self.call.letter();
-        put_lengths(&mut header, &LENGTHS, lengths);
+        put_lengths(&mut header, &self.call.lengths(), lengths);
+        let (map_written, room) = match self.call.tells_what_is_written() {
+            true => (&self.map_written[..], &self.room[..]),
+            false => (&[][..], &[][..]),
+        };
         output.write_all(&header)?;
         output.write_all(&self.image)?;
         output.write_all(&self.patch)?;
-        for row in self.map_read.iter().chain(&self.map_written) {
+        for row in self.map_read.iter().chain(map_written) {
             output.write_all(&row.to_le_bytes())?;
         }
         for id in &self.ids {
             output.write_all(&id.to_le_bytes())?;
         }
-        output.write_all(&self.room)?;
+        output.write_all(room)?;
         self.steps.iter().try_for_each(|step| step.write(output))
     }
 
@@ -132,29 +162,37 @@ impl Case {
             return Ok(None);
         };
         let call = Call::from_letter(header[0]).ok_or_else(|| broken("a letter without a call"))?;
+        let is_told = call.tells_what_is_written();
         let [image, patch, map_read, map_written, ids, room, steps] =
-            lengths_in(&header, &LENGTHS)?;
+            lengths_in(&header, &call.lengths())?;
         let case = Case {
             call,
             image: read_bytes(input, image)?,
             patch: read_bytes(input, patch)?,
             map_read: read_rows(input, map_read)?,
-            map_written: read_rows(input, map_written)?,
+            map_written: match is_told {
+                true => read_rows(input, map_written)?,
+                false => vec![LENT_ROW; map_written],
+            },
             ids: read_ids(input, ids)?,
-            room: read_bytes(input, room)?,
+            room: match is_told {
+                true => read_bytes(input, room)?,
+                false => vec![LENT_BYTE; room],
+            },
             steps: (0..steps)
                 .map(|_| Step::read(input))
                 .collect::<io::Result<_>>()?,
         };
         match case.starts_rightly() {
             true => Ok(Some(case)),
-            false => Err(broken("a run on a table that is refused or on another map")),
+            false => Err(broken("a start from a refused table or from another map")),
         }
     }
 
-    /// Whether the case, if it is a run, starts from a valid table and its true map.
+    /// Whether the case starts from a valid table and its true map, where it has to.
     fn starts_rightly(&self) -> bool {
-        self.call != Call::Run || Afresh::start(&self.image, &self.map_read).is_some()
+        let is_true = || Afresh::start(&self.image, &self.map_read).is_some();
+        !self.call.starts_from_truth() || is_true()
     }
 }
 

@@ -13,6 +13,7 @@ use second::map_call::map_call;
 use second::numbered_cases::patch_of;
 use second::patch_call::patch_call;
 use second::reason_call::reason_call;
+use second::reverse_call::reverse_call;
 use second::verdict::{records_of_table, Refusal};
 
 /// An image with 45 blocks, as many as a patch can have: it takes out and puts in a full table.
@@ -149,6 +150,26 @@ fn a_patch_call_refuses_a_changed_patch_whatever_is_lent() {
             assert_eq!((room, new_map), ([7; 1024], [7; 64]));
             assert_eq!(patch_call(&base, &changed, &[], &mut [], &mut []), refused);
         }
+    }
+}
+
+#[test]
+fn a_reverse_call_refuses_a_changed_patch_whatever_is_lent() {
+    let full = full_patch();
+    let further_block = (BLOCK_BYTES..2 * BLOCK_BYTES).step_by(10);
+    let in_full = further_block.map(|at| Change {
+        at,
+        value: !full[at],
+    });
+    let patch = patch_of(12).expect("a patch");
+    let in_first_block = some_changes_of(&patch).map(|change| (&patch, change));
+    for (patch, change) in in_full.map(|change| (&full, change)).chain(in_first_block) {
+        let changed = with_changes(patch, &[change]);
+        let refused = Err(Refusal::new(22, change.at / BLOCK_BYTES));
+        let mut room = vec![7; patch.len()];
+        assert_eq!(reverse_call(&changed, &mut room), refused);
+        assert!(room.iter().all(|byte| *byte == 7));
+        assert_eq!(reverse_call(&changed, &mut []), refused);
     }
 }
 

@@ -54,11 +54,17 @@ fn every_refusal_of_every_call_is_met() {
     assert_meets(Call::Map, (1..=8).chain([11]));
     assert_meets(Call::Bound, (1..=8).chain([11]));
     assert_meets(Call::Patch, (1..=11).chain(21..=27));
+    assert_meets(Call::Reverse, [11].into_iter().chain(21..=27));
 }
 
 #[test]
 fn too_many_of_every_kind_are_met() {
-    for (call, number) in [(Call::TableVerdict, 7), (Call::PatchVerdict, 27)] {
+    let too_many = [
+        (Call::TableVerdict, 7),
+        (Call::PatchVerdict, 27),
+        (Call::Reverse, 27),
+    ];
+    for (call, number) in too_many {
         let verdicts = verdicts_of(call);
         assert!((1..=3).all(|kind| verdicts.contains_key(&(number, kind))));
     }
@@ -66,7 +72,12 @@ fn too_many_of_every_kind_are_met() {
 
 #[test]
 fn refusals_are_met_at_low_and_high_places() {
-    for (call, numbers) in [(Call::TableVerdict, 2..=6), (Call::PatchVerdict, 22..=26)] {
+    let with_places = [
+        (Call::TableVerdict, 2..=6),
+        (Call::PatchVerdict, 22..=26),
+        (Call::Reverse, 22..=26),
+    ];
+    for (call, numbers) in with_places {
         let verdicts = verdicts_of(call);
         for number in numbers {
             let places: Vec<u32> = verdicts
@@ -81,7 +92,7 @@ fn refusals_are_met_at_low_and_high_places() {
 
 /// The stream of this seed over all calls.
 fn stream(seed: u64, count: usize) -> Vec<u8> {
-    let wanted: Vec<Wanted> = b"TPMBARWL"
+    let wanted: Vec<Wanted> = b"TPMBARWVUL"
         .iter()
         .copied()
         .filter_map(Wanted::from_letter)

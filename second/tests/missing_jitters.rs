@@ -2,7 +2,7 @@
 
 mod common;
 
-use common::streams::{absent_record, outcome_of, Stream, COMPARED, PATCH_CALLS, VERDICTS};
+use common::streams::{absent_record, outcome_of, Stream, COMPARED, OF_IMAGES, PATCH_CALLS};
 use second::blocks::records_in;
 use second::preempt::true_map;
 use second::records::{Task, MISSING_JITTER, TASK};
@@ -16,7 +16,7 @@ fn the_gate_compares_these_streams() {
         let (seed, letters, count) = (stream.seed, stream.letters, stream.count);
         gate.contains(&format!("\n.ci/compare {seed} {letters} {count} "))
     };
-    assert!(COMPARED.iter().chain([&VERDICTS]).all(compares));
+    assert!(COMPARED.iter().chain(&OF_IMAGES).all(compares));
 }
 
 #[test]

@@ -1,12 +1,13 @@
 //! Runs of patches: the calls made one after another against working each step out afresh.
 
+mod common;
+
 use std::collections::BTreeMap;
 
-use second::afresh::{Afresh, Standing};
-use second::answer::{answer, part_of_run, start_of_run};
+use common::{first_number, parts_of_calls, read_again};
+use second::afresh::Afresh;
+use second::answer::answer;
 use second::generate::Generator;
-use second::patch_call::patch_call;
-use second::stream::step::{LENT_BYTE, LENT_ROW};
 use second::stream::{Call, Case};
 
 const RUNS: usize = 300;
@@ -17,36 +18,11 @@ fn runs(seed: u64) -> impl Iterator<Item = Case> {
     (0..RUNS).map(move |_| generator.next_case(Call::Run))
 }
 
-/// The line of a run whose steps are patch calls, each on what the last accepted one left.
-fn line_of_calls(run: &Case) -> String {
-    let mut standing = Standing {
-        image: run.image.clone(),
-        map: run.map_read.clone(),
-    };
-    let mut line = start_of_run(&standing);
-    for step in &run.steps {
-        let mut image = vec![LENT_BYTE; step.room_bytes];
-        let mut map = vec![LENT_ROW; step.map_rows];
-        let given = patch_call(
-            &standing.image,
-            &step.patch,
-            &standing.map,
-            &mut image,
-            &mut map,
-        );
-        if let Ok(patched) = &given {
-            image.truncate(patched.length);
-            standing = Standing { image, map };
-        }
-        line += &part_of_run(&given, &standing);
-    }
-    line
-}
-
 #[test]
 fn calls_in_turn_give_what_working_it_out_afresh_gives() {
     for mut run in runs(41) {
-        assert_eq!(line_of_calls(&run), answer(&mut run));
+        let line = parts_of_calls(&run, &run.steps).concat();
+        assert_eq!(line, answer(&mut run));
     }
 }
 
@@ -56,8 +32,7 @@ fn steps_are_mostly_accepted_and_meet_every_refusal_of_a_patch() {
     for mut run in runs(42) {
         assert_eq!(run.steps.len(), 20);
         for part in answer(&mut run).split(" | ").skip(1) {
-            let number = part.split(' ').next().expect("a number");
-            *numbers.entry(number.parse().expect("decimal")).or_insert(0) += 1;
+            *numbers.entry(first_number(part)).or_insert(0) += 1;
         }
     }
     let accepted = numbers.remove(&0).unwrap_or(0);
@@ -90,14 +65,10 @@ fn a_run_starts_from_a_valid_table_and_its_true_map() {
     assert!(Afresh::start(&run.image, &run.map_read[..63]).is_none());
     assert!(Afresh::start(&run.image, &[0; 64]).is_none());
     assert!(Afresh::start(&run.image[1..], &run.map_read).is_none());
-    let broken = |run: &Case| {
-        let mut bytes = Vec::new();
-        run.write(&mut bytes).expect("a stream in memory");
-        Case::read(&mut bytes.as_slice()).is_err()
-    };
-    assert!(!broken(&run));
-    assert!(broken(&Case {
+    assert!(read_again(&run).is_ok());
+    let on_other_map = Case {
         map_read: vec![0; 64],
         ..run
-    }));
+    };
+    assert!(read_again(&on_other_map).is_err());
 }

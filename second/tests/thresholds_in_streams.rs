@@ -5,7 +5,7 @@ mod common;
 
 use std::collections::BTreeMap;
 
-use common::streams::{absent_record, Stream, BOUND_CALLS, COMPARED, PATCH_CALLS, VERDICTS};
+use common::streams::{absent_record, Stream, BOUND_CALLS, COMPARED, OF_IMAGES, PATCH_CALLS};
 use common::{bounds_with, pairs_of_tasks};
 use second::blocks::{records_in, start_of_record};
 use second::records::{Record, Task, PAIR, TASK, THRESHOLD_AT, TRANSACTION};
@@ -55,7 +55,7 @@ fn has_thresholds(table: &Table) -> bool {
 
 #[test]
 fn every_fourth_table_that_no_patch_made_is_without_thresholds() {
-    let drawn = |stream: &Stream| !["A", "R"].contains(&stream.letters);
+    let drawn = |stream: &Stream| !["A", "R", "U"].contains(&stream.letters);
     for stream in COMPARED.into_iter().filter(drawn) {
         let several_tasks = |table: &Table| table.tasks.len() > 1;
         let tables: Vec<Table> = stream.tables().filter(several_tasks).collect();
@@ -132,8 +132,10 @@ fn refused_patch(image: &[u8]) -> Option<(&[u8], Refusal)> {
 fn refused_images(case: &Case) -> Vec<(&[u8], Refusal)> {
     let steps = case.steps.iter();
     let refused = match case.call {
-        Call::PatchVerdict => refused_patch(&case.image),
-        Call::Patch => refused_table(&case.image).or_else(|| refused_patch(&case.patch)),
+        Call::PatchVerdict | Call::Reverse => refused_patch(&case.image),
+        Call::Patch | Call::RoundTrip => {
+            refused_table(&case.image).or_else(|| refused_patch(&case.patch))
+        }
         _ => refused_table(&case.image),
     };
     steps
@@ -159,7 +161,7 @@ fn refused_records(case: &Case, numbers: [u32; 2]) -> Vec<(Refused, Record)> {
 
 /// How often calls of each letter are refused with each of these numbers for a record as asked.
 fn refusals_for(numbers: [u32; 2], asked: impl Fn(&Record) -> bool) -> BTreeMap<Refused, usize> {
-    let streams = COMPARED.into_iter().chain([VERDICTS]);
+    let streams = COMPARED.into_iter().chain(OF_IMAGES);
     let cases = streams.flat_map(Stream::cases);
     let records = cases.flat_map(|case| refused_records(&case, numbers));
     let mut counts = BTreeMap::new();
@@ -179,7 +181,7 @@ fn thresholds_out_of_range_are_refused_at_both_ends_for_each_letter() {
             is_task && u16::from(task.threshold) == end(&task)
         });
         let in_tables = ['T', 'M', 'B', 'A', 'W'].map(|letter| (letter, 6));
-        let in_patches = ['P', 'A', 'R'].map(|letter| (letter, 26));
+        let in_patches = ['P', 'A', 'R', 'V', 'U'].map(|letter| (letter, 26));
         for wanted in in_tables.iter().chain(&in_patches) {
             assert!(counts[wanted] >= 3);
         }

@@ -14,11 +14,13 @@ mod patches;
 pub mod random;
 mod reason_cases;
 mod record_damage;
+mod reverse_cases;
 mod rooms;
 mod run_cases;
 pub mod tables;
 mod task_values;
 mod thresholds;
+mod trip_cases;
 mod verdict_cases;
 
 use std::io::{self, Write};
@@ -90,6 +92,8 @@ impl Generator {
             Call::Patch => self.run.next_case(&mut self.random),
             Call::Run => run_cases::draw(&mut self.random),
             Call::Reasons => reason_cases::draw(&mut self.random),
+            Call::Reverse => reverse_cases::draw(&mut self.random),
+            Call::RoundTrip => trip_cases::draw(&mut self.random),
         }
     }
 }

@@ -153,7 +153,7 @@ fn outcome_length(case: &mut Case) -> Option<usize> {
 }
 
 /// The room that the outcome of the case takes, and one block where it is refused.
-fn needed_length(case: &Case) -> usize {
+pub fn needed_length(case: &Case) -> usize {
     let mut tried = case.clone();
     tried.map_read.resize(MAP_ROWS, 0);
     tried.map_written.resize(MAP_ROWS, 0);

@@ -4,6 +4,10 @@
 
 pub mod streams;
 
+use std::io;
+
+use second::afresh::Standing;
+use second::answer::{part_of_step, start_of_steps};
 use second::blocks::{image_of, patch_image, Form};
 use second::bound_call::{bound_call, Bounds};
 use second::generate::random::Random;
@@ -11,6 +15,10 @@ use second::generate::tables::fullest_table;
 use second::patch_call::{patch_call, Patched};
 use second::preempt::true_map;
 use second::records::{Pair, PairSort, Task, Transaction, MISSING_JITTER};
+use second::reverse_call::reverse_call;
+use second::sorts::Sorts;
+use second::stream::step::{Step, LENT_BYTE, LENT_ROW};
+use second::stream::{Call, Case};
 use second::table::Table;
 use second::verdict::{records_of_patch, records_of_table, Refusal};
 
@@ -164,6 +172,12 @@ pub fn numbers_in(part: &str) -> Vec<u32> {
         .collect()
 }
 
+/// The number that a call's part of an answer starts with.
+pub fn first_number(part: &str) -> u32 {
+    let number = part.split(' ').next().expect("a number");
+    number.parse().expect("a decimal number")
+}
+
 /// Why a patch that takes this task's record out of a table with this other record of it is refused.
 pub fn refusal_of_taking_out(taken_out: Task, listed: Task) -> Option<Refusal> {
     let base = table(&[task(1, 1, 0, 0), listed], &[]);
@@ -190,4 +204,69 @@ pub fn apply(base: &[u8], patch: &[u8], map: &[u64]) -> Result<Outcome, Refusal>
         image: room,
         map: new_map,
     })
+}
+
+/// The reverse of a patch that is well-formed.
+pub fn reverse(patch: &[u8]) -> Vec<u8> {
+    let mut room = vec![0; patch.len()];
+    assert_eq!(reverse_call(patch, &mut room), Ok(patch.len()));
+    room
+}
+
+/// The sorts that one call is of.
+pub fn sorts_of(case: &Case) -> Vec<String> {
+    let mut sorts = Sorts::default();
+    sorts.count(case);
+    let lines = sorts.lines();
+    let met = lines.lines().filter_map(|line| line.strip_prefix("1 "));
+    met.map(String::from).collect()
+}
+
+/// The case as it stands in a stream.
+pub fn stream_of(case: &Case) -> Vec<u8> {
+    let mut stream = Vec::new();
+    case.write(&mut stream).expect("a stream in memory");
+    stream
+}
+
+/// The case as it is read from a stream that holds it.
+pub fn read_again(case: &Case) -> io::Result<Option<Case>> {
+    Case::read(&mut stream_of(case).as_slice())
+}
+
+/// A round trip from a table with its true map, with this much map and room for each outcome.
+pub fn round_trip(base: &Table, patch: Vec<u8>, map_rows: usize, room_bytes: usize) -> Case {
+    Case {
+        patch,
+        map_read: true_map(base).to_vec(),
+        map_written: vec![LENT_ROW; map_rows],
+        room: vec![LENT_BYTE; room_bytes],
+        ..Case::lending(Call::RoundTrip, table_image(base))
+    }
+}
+
+/// The start of a line and a part for each of these steps, as patch calls on what the last accepted one left.
+pub fn parts_of_calls(case: &Case, steps: &[Step]) -> Vec<String> {
+    let mut standing = Standing {
+        image: case.image.clone(),
+        map: case.map_read.clone(),
+    };
+    let mut parts = vec![start_of_steps(case.call, &standing)];
+    for step in steps {
+        let mut image = vec![LENT_BYTE; step.room_bytes];
+        let mut map = vec![LENT_ROW; step.map_rows];
+        let given = patch_call(
+            &standing.image,
+            &step.patch,
+            &standing.map,
+            &mut image,
+            &mut map,
+        );
+        if let Ok(patched) = &given {
+            image.truncate(patched.length);
+            standing = Standing { image, map };
+        }
+        parts.push(part_of_step(&given, &standing));
+    }
+    parts
 }

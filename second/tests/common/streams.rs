@@ -4,6 +4,8 @@ use second::afresh::Afresh;
 use second::generate::{Generator, Wanted};
 use second::patch_call::patch_call;
 use second::records::Record;
+use second::round_trip::RoundTrip;
+use second::stream::step::Step;
 use second::stream::{Call, Case};
 use second::table::Table;
 use second::verdict::records_of_table;
@@ -27,16 +29,22 @@ const fn stream(seed: u64, letters: &'static str, count: usize) -> Stream {
 pub const VERDICTS: Stream = stream(1, "TP", 4000);
 pub const BOUND_CALLS: Stream = stream(3, "B", 3000);
 pub const PATCH_CALLS: Stream = stream(4, "A", 3000);
+pub const REVERSES: Stream = stream(9, "V", 1500);
+pub const ROUND_TRIPS: Stream = stream(10, "U", 1000);
 
 /// The streams of every letter whose calls read a table for its map, its bounds or its reasons.
-pub const COMPARED: [Stream; 6] = [
+pub const COMPARED: [Stream; 7] = [
     stream(2, "M", 2000),
     BOUND_CALLS,
     PATCH_CALLS,
     stream(7, "L", 840),
     stream(6, "R", 200),
     stream(8, "W", 1200),
+    ROUND_TRIPS,
 ];
+
+/// The streams of the other letters, whose calls read an image by itself.
+pub const OF_IMAGES: [Stream; 2] = [VERDICTS, REVERSES];
 
 impl Stream {
     pub fn cases(self) -> impl Iterator<Item = Case> {
@@ -51,7 +59,8 @@ impl Stream {
     pub fn tables(self) -> impl Iterator<Item = Table> {
         let images = self.cases().flat_map(|case| match case.call {
             Call::Patch => outcome_of(&case).into_iter().chain([case.image]).collect(),
-            Call::Run => standing_images(&case),
+            Call::Run => standing_images(&case, &case.steps),
+            Call::RoundTrip => standing_images(&case, &RoundTrip::of(&case).steps),
             _ => vec![case.image],
         });
         images.filter_map(|image| Some(Table::read(&records_of_table(&image).ok()?)))
@@ -72,14 +81,14 @@ pub fn outcome_of(case: &Case) -> Option<Vec<u8>> {
     Some(room)
 }
 
-/// The images that stand at the start of a run and after each accepted step.
-pub fn standing_images(run: &Case) -> Vec<Vec<u8>> {
-    let mut afresh = Afresh::start(&run.image, &run.map_read).expect("a valid start");
-    let accepted = run.steps.iter().filter_map(|step| {
+/// The images that stand at the start of these steps and after each accepted one.
+pub fn standing_images(case: &Case, steps: &[Step]) -> Vec<Vec<u8>> {
+    let mut afresh = Afresh::start(&case.image, &case.map_read).expect("a valid start");
+    let accepted = steps.iter().filter_map(|step| {
         afresh.step(step).ok()?;
         Some(afresh.standing().image)
     });
-    [run.image.clone()].into_iter().chain(accepted).collect()
+    [case.image.clone()].into_iter().chain(accepted).collect()
 }
 
 /// The record that a patch call hands back with refusal 9.
