@@ -1,6 +1,8 @@
 //! Which sorts of call a stream holds, so that a comparison can be seen to meet each of them.
 
 mod patch_calls;
+mod reverses;
+mod round_trips;
 
 use std::collections::{BTreeMap, BTreeSet};
 
@@ -9,6 +11,9 @@ use crate::stream::{Call, Case};
 
 /// The name of a sort, and whether a call is of it.
 type Told = (String, bool);
+
+/// The name of a sort of such calls, and the test for it.
+type Sort<Tried> = (&'static str, fn(&Tried) -> bool);
 
 /// How many calls of each sort there were, by the call's letter and in the order of its sorts.
 #[derive(Default)]
@@ -21,6 +26,8 @@ impl Sorts {
     pub fn count(&mut self, case: &Case) {
         let told = match case.call {
             Call::Patch => patch_calls::told(case),
+            Call::Reverse => reverses::told(case),
+            Call::RoundTrip => round_trips::told(case),
             _ => Vec::new(),
         };
         for (rank, (name, holds)) in told.into_iter().enumerate() {
@@ -36,6 +43,12 @@ impl Sorts {
             .map(|(name, count)| format!("{count} {name}\n"))
             .collect()
     }
+}
+
+/// What these sorts say of one call.
+fn told_by<Tried>(sorts: &[Sort<Tried>], call: &Tried) -> Vec<Told> {
+    let told = |(name, holds): &Sort<Tried>| (String::from(*name), holds(call));
+    sorts.iter().map(told).collect()
 }
 
 /// Whether a patch takes a record out and puts it in again as it was.

@@ -5,7 +5,7 @@ mod common;
 use std::io::Write;
 use std::process::{Command, Output, Stdio};
 
-use common::{table, table_image, task};
+use common::{stream_of, table, table_image, task};
 use second::figure2::figure2;
 use second::heaviest::heaviest;
 use second::stream::{Call, Case};
@@ -105,11 +105,15 @@ fn cases_are_streams_of_runs() {
 }
 
 #[test]
-fn sorts_are_counted_where_there_are_patch_calls() {
-    let patch_calls = run(&["generate", "3", "A", "50"], &[]).stdout;
-    assert_eq!(printed(&["sorts"], &patch_calls).lines().count(), 20);
-    let others = run(&["generate", "3", "TPMBRW", "50"], &[]).stdout;
-    assert_eq!(printed(&["sorts"], &others), "");
+fn sorts_are_counted_where_their_calls_are() {
+    let sorts_of = |letters: &str| {
+        let stream = run(&["generate", "3", letters, "50"], &[]).stdout;
+        printed(&["sorts"], &stream)
+    };
+    for (letters, sorts) in [("A", 20), ("V", 17), ("U", 19), ("VAU", 56)] {
+        assert_eq!(sorts_of(letters).lines().count(), sorts);
+    }
+    assert_eq!(sorts_of("TPMBRW"), "");
 }
 
 #[test]
@@ -199,13 +203,10 @@ fn answers_stop_where_the_stream_breaks() {
 
 /// The stream of a case that puts this many questions to figure 2.
 fn stream_of_questions(questions: usize) -> Vec<u8> {
-    let case = Case {
+    stream_of(&Case {
         map_read: vec![0; questions],
         ..Case::lending(Call::Reasons, table_image(&figure2()))
-    };
-    let mut stream = Vec::new();
-    case.write(&mut stream).expect("a stream in memory");
-    stream
+    })
 }
 
 #[test]

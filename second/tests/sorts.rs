@@ -1,4 +1,4 @@
-//! The sorts of patch call that a comparison is to meet.
+//! The sorts of call that a comparison is to meet.
 
 mod common;
 
@@ -12,15 +12,6 @@ use second::records::{Record, Task, Transaction};
 use second::sorts::Sorts;
 use second::stream::{Call, Case};
 use second::table::Table;
-
-/// The sorts that one call is of.
-fn sorts_of(case: &Case) -> Vec<String> {
-    let mut sorts = Sorts::default();
-    sorts.count(case);
-    let lines = sorts.lines();
-    let met = lines.lines().filter_map(|line| line.strip_prefix("1 "));
-    met.map(String::from).collect()
-}
 
 /// A patch call on a table with its true map, 70 rows for the new map and more room than any outcome needs.
 fn call(base: &Table, patch: Vec<u8>) -> Case {
@@ -36,18 +27,25 @@ fn call(base: &Table, patch: Vec<u8>) -> Case {
 /// What every call above is of.
 const MAPS: [&str; 2] = ["a base map of 64 rows", "a new map of 70 rows"];
 
-#[test]
-fn every_sort_is_met_by_the_generator() {
+/// Sees that this many sorts are met, each often enough, by cases of this call.
+fn assert_sorts_are_met(call: Call, cases: usize, sort_count: usize) {
     let mut generator = Generator::from_seed(51);
     let mut sorts = Sorts::default();
     assert_eq!(sorts.lines(), "");
-    (0..3000).for_each(|_| sorts.count(&generator.next_case(Call::Patch)));
+    (0..cases).for_each(|_| sorts.count(&generator.next_case(call)));
     let lines = sorts.lines();
-    assert_eq!(lines.lines().count(), 20);
+    assert_eq!(lines.lines().count(), sort_count);
     for line in lines.lines() {
         let count: usize = line.split(' ').next().unwrap().parse().unwrap();
         assert!(count >= 5, "{line}");
     }
+}
+
+#[test]
+fn every_sort_is_met_by_the_generator() {
+    assert_sorts_are_met(Call::Patch, 3000, 20);
+    assert_sorts_are_met(Call::Reverse, 1500, 17);
+    assert_sorts_are_met(Call::RoundTrip, 1000, 19);
 }
 
 /// A patch in which a missing jitter is read as another period than before.
