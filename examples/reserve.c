@@ -1,14 +1,16 @@
 /*
- * The stack reserve of a task table before and after a patch, and what refusals look like:
+ * The stack reserve of a task table before a patch, after it, and with it taken off again; and what refusals look like:
  *
  *     reserve TABLE PATCH OTHER
  *
- * reads a table image and two patch images. It applies PATCH to the table, then PATCH once more to the outcome, and OTHER
- * to the table, asks for the reason of a task that no table lists, and prints what each call answers.
+ * reads a table image and two patch images. It applies PATCH to the table, then PATCH once more to the outcome, and then
+ * the reverse of PATCH, which gives the table back. It applies OTHER to the table, asks for the reason of a task that no
+ * table lists, and prints what each call answers.
  */
 #include <inttypes.h>
 #include <stdio.h>
 #include <stdlib.h>
+#include <string.h>
 
 #include "siodlomil.h"
 
@@ -110,6 +112,37 @@ static int apply(const char *call, const table *base, const patch *with, table *
     return 1;
 }
 
+/* Writes the reverse of a patch and returns whether there is one. */
+static int reverse(const patch *of, patch *back)
+{
+    siodlomil_reverse_answer answer = siodlomil_reverse(of->image, of->bytes, back->image, SIODLOMIL_PATCH_BYTES);
+    if (!is_accepted("reverse", answer.number, answer.place)) {
+        return 0;
+    }
+    back->bytes = answer.length;
+    printf("  %" PRIu32 " bytes\n", answer.length);
+    return 1;
+}
+
+/* Whether two tables have the same bytes and the same map. */
+static int is_same(const table *one, const table *other)
+{
+    return one->bytes == other->bytes && memcmp(one->image, other->image, one->bytes) == 0 &&
+           memcmp(one->map, other->map, sizeof one->map) == 0;
+}
+
+/* Takes a patch off again, prints the reserve then, and returns whether all is as it was before the patch. */
+static int take_off(const table *before, const table *after, const patch *of)
+{
+    static patch back;
+    static table restored;
+    if (!reverse(of, &back) || !apply("the reverse on the outcome", after, &back, &restored)) {
+        return 0;
+    }
+    print_reserve(&restored);
+    return is_same(before, &restored);
+}
+
 /* Prints the record of a patch that is to be taken out though the base lacks it, if there is one. */
 static void print_offending(const table *base, const patch *with)
 {
@@ -142,6 +175,10 @@ int main(int count, char **words)
     }
     print_reserve(&after);
     apply("the same patch on its outcome", &after, &first, &again);
+    if (!take_off(&before, &after, &first)) {
+        return EXIT_FAILURE;
+    }
+    printf("  table and map are as they were before the patch, byte for byte\n");
     if (!apply("the other patch", &before, &other, &again)) {
         print_offending(&before, &other);
     }

@@ -1,6 +1,6 @@
 /*
- * Siodlomil from C: who may preempt whom in a task table and why, how much stack the tasks need at most, and patches to a
- * table.
+ * Siodlomil from C: who may preempt whom in a task table and why, how much stack the tasks need at most, patches to a table,
+ * and taking a patch off again.
  *
  * Link with libsiodlomil.a, which `rt staticlib siodlomil` writes to target/staticlib/. It is for x86-64 Linux and uses
  * memcpy and memset of the C library, and nothing else. Every function in it is proved to meet its promise for every
@@ -55,7 +55,8 @@
  *           neither 0 nor 1 (24); too many taken out, or too many put in (27)       as for 1 to 7
  *
  * An accepted image with one byte changed, or with two unequal neighbours among the first 510 bytes of a block changed
- * over, is refusal 2 at that block, and 22 for a patch on an accepted base. Two changes in one block can cancel.
+ * over, is refusal 2 at that block, and 22 for a patch, on an accepted base or to be reversed. Two changes in one block can
+ * cancel.
  */
 #ifndef SIODLOMIL_H
 #define SIODLOMIL_H
@@ -74,7 +75,7 @@ extern "C" {
 /* The longest table, 23 blocks: a room of this length holds the outcome of every patch. */
 #define SIODLOMIL_TABLE_BYTES 11776
 
-/* The longest patch, 45 blocks. */
+/* The longest patch, 45 blocks: a room of this length holds the reverse of every patch. */
 #define SIODLOMIL_PATCH_BYTES 23040
 
 /* The rows of a map, a 64-bit number for each. */
@@ -125,6 +126,13 @@ typedef struct siodlomil_patch_answer {
     uint32_t touched; /* how many tasks of the outcome the patch touches */
     uint32_t length;  /* how many bytes of the outcome are written */
 } siodlomil_patch_answer;
+
+/* What siodlomil_reverse answers. */
+typedef struct siodlomil_reverse_answer {
+    uint32_t number;
+    uint32_t place;
+    uint32_t length; /* how many bytes of the reverse are written: as many as the patch has */
+} siodlomil_reverse_answer;
 
 /* What siodlomil_offending answers. */
 typedef struct siodlomil_offending_answer {
@@ -191,6 +199,20 @@ siodlomil_reason_answer siodlomil_reason(const uint8_t *image, size_t image_byte
 siodlomil_patch_answer siodlomil_patch(const uint8_t *base, size_t base_bytes, const uint8_t *patch, size_t patch_bytes,
                                        const uint64_t *base_map, size_t base_map_rows, uint8_t *room, size_t room_bytes,
                                        uint64_t *new_map, size_t new_map_rows);
+
+/*
+ * Writes the reverse of a patch image, which takes the patch off again: refusals 21 to 27 for the patch, then 11.
+ *
+ * patch  read: the patch image. No base is needed, and a patch that no table would accept has a reverse all the same.
+ * room   written: the reverse, as a patch image. At least as long as the patch; bytes beyond that keep their values.
+ *
+ * What the patch puts in the reverse takes out, and what the patch takes out the reverse puts in, each part in table order;
+ * a record differs from the patch's in byte 31 alone. The reverse of the reverse is the patch, byte for byte.
+ * Where siodlomil_patch accepts a patch, it accepts the reverse on the outcome if the map and the rooms suffice, and the
+ * base image is given back byte for byte. Where the first map is what siodlomil_map fills in for the base and the second is
+ * what the first call wrote, its 64 rows are given back too; how many tasks are touched may differ on the two ways.
+ */
+siodlomil_reverse_answer siodlomil_reverse(const uint8_t *patch, size_t patch_bytes, uint8_t *room, size_t room_bytes);
 
 /*
  * Where refusal 9 points: the record to take out that the base lacks, as bytes of the patch image.

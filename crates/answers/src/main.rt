@@ -5,8 +5,10 @@ mod maps;
 mod patches;
 mod print;
 mod reasons;
+mod reverses;
 mod runs;
 mod space;
+mod trips;
 mod verdicts;
 
 use crate::patches::Lent;
@@ -28,19 +30,22 @@ fn answer_next() -> bool {
     let written_rows = four_bytes(&header, 16) as usize;
     let id_count = four_bytes(&header, 20) as usize;
     let room_bytes = four_bytes(&header, 24) as usize;
+    let lent = Lent {
+        image_bytes,
+        patch_bytes,
+        base_rows: read_rows,
+        new_rows: written_rows,
+        room_bytes,
+    };
     let call = header[0];
     match call {
         b'T' => verdicts::answer(b'T', image_bytes),
         b'P' => verdicts::answer(b'P', image_bytes),
         b'M' => maps::answer(image_bytes, written_rows),
         b'B' => bounds::answer(image_bytes, read_rows, id_count),
-        b'A' => patches::answer(Lent {
-            image_bytes,
-            patch_bytes,
-            base_rows: read_rows,
-            new_rows: written_rows,
-            room_bytes,
-        }),
+        b'A' => patches::answer(lent),
+        b'V' => reverses::answer(image_bytes, room_bytes),
+        b'U' => trips::answer(lent),
         b'W' => reasons::answer(image_bytes, read_rows),
         b'R' => runs::answer(image_bytes, read_rows, four_bytes(&header, 28)),
         _ => false,

@@ -21,7 +21,7 @@ struct Step {
 }
 
 // How a step was taken: whether the stream had it, whether its patch was accepted, and how long table and map are then.
-struct Taken {
+pub struct Taken {
     pub is_read: bool,
     pub is_accepted: bool,
     pub length: usize,
@@ -85,7 +85,7 @@ fn print_rows(rows: &[u64], count: u32) {
 }
 
 // Prints what stands: the digests of table and map, the bounds over that map with the chain's ids, and the tasks' rows.
-fn print_standing(image: &[u8], map: &[u64]) {
+pub fn print_standing(image: &[u8], map: &[u64]) {
     let mut ids = space::ids();
     let found = stack::call::find_bounds(image, map, &mut ids);
     print::number(digest::of_bytes(image));
@@ -111,35 +111,27 @@ fn apply(
     patched
 }
 
-// Reads the next step and puts its patch to what stands.
-fn take_step(
+// Puts the patch of a step to what stands, with so much of the room and of the map lent, or says that there is not so much.
+pub fn put_step(
     base: &[u8],
     base_map: &[u64],
-    patch: &mut [u8],
+    patch: &[u8],
+    room_bytes: usize,
+    new_rows: usize,
     room: &mut [u8],
     map: &mut [u64],
 ) -> Taken
     ensures { λ r. ⌜ (r .length ≤ length (now (room .exit))) × (r .rows ≤ length (now (map .exit))) ⌝ }
 {
-    let step = read_step();
-    let patch_bytes = step.patch_bytes;
-    let new_rows = step.new_rows;
-    let room_bytes = step.room_bytes;
-    if !step.is_read {
-        return broken();
-    }
     if room.len() < room_bytes {
         return broken();
     }
     if map.len() < new_rows {
         return broken();
     }
-    if space::fill(patch, patch_bytes) < patch_bytes {
-        return broken();
-    }
     let patched = apply(
         base,
-        &patch[..patch_bytes],
+        patch,
         base_map,
         &mut room[..room_bytes],
         &mut map[..new_rows],
@@ -154,6 +146,35 @@ fn take_step(
         length,
         rows: new_rows,
     }
+}
+
+// Reads the next step and puts its patch to what stands.
+fn take_step(
+    base: &[u8],
+    base_map: &[u64],
+    patch: &mut [u8],
+    room: &mut [u8],
+    map: &mut [u64],
+) -> Taken
+    ensures { λ r. ⌜ (r .length ≤ length (now (room .exit))) × (r .rows ≤ length (now (map .exit))) ⌝ }
+{
+    let step = read_step();
+    let patch_bytes = step.patch_bytes;
+    if !step.is_read {
+        return broken();
+    }
+    if space::fill(patch, patch_bytes) < patch_bytes {
+        return broken();
+    }
+    put_step(
+        base,
+        base_map,
+        &patch[..patch_bytes],
+        step.room_bytes,
+        step.new_rows,
+        room,
+        map,
+    )
 }
 
 // Prints what stands and answers the steps that are left, each on what the last accepted one left, or says that the

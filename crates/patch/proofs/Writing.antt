@@ -29,7 +29,7 @@ none-refused = refl
 -- records of 32 bytes, one after another
 module _ (rs : List (List ℕ)) (sized : Records rs) where
   -- how many they are, by their bytes
-  count-joined : length (joined rs) / 32 ≡ length rs
+  pub count-joined : length (joined rs) / 32 ≡ length rs
   count-joined = omega (arith, length-joined 32 rs sized)
 
   -- cut again, they are the records

@@ -1,6 +1,6 @@
 -- What fixes each answer of the C interface. The map call promises what `map-determined` of `preempt` asks, the bound call what
--- `bound-call-determined` of `rules` asks, and the patch call the three fields of `patch-determined` of `patch`. Where the
--- offending part stands is fixed here.
+-- `bound-call-determined` of `rules` asks, the patch call the three fields of `patch-determined` of `patch`, and the reverse call
+-- what `reverse-determined` of `reverse` asks. Where the offending part stands is fixed here.
 use Prim.Native.Nat.{ℕ}
 use mathlib.Core.List.{List, []}
 use mathlib.Core.Path.{_≡_, ap, sym, _∙_}

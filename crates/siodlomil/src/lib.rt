@@ -1,14 +1,16 @@
 // The C interface: the calls of the library under names that C can link. Each lent slice is a pointer and its length.
 ghost use mathlib.Core.Path.{_≡_};
-ghost use Rattle.rules.specs.Calls.{mapVerdict, mapAfter, BoundCall, reasonAnswer, patchCallVerdict, patchAnswer, roomAfter, patchedAfter};
+ghost use Rattle.rules.specs.Calls.{mapVerdict, mapAfter, BoundCall, reasonAnswer, patchCallVerdict, patchAnswer, roomAfter, patchedAfter, reverseAnswer, reverseAfter};
 ghost use Rattle.siodlomil.specs.Standing.{OffendsAt};
 use patch::absent::verdict_of_both;
 use patch::call::apply_patch;
 use preempt::map::fill_map;
 use reason::call::find_reason;
+use reverse::call::reverse_patch;
 use rules::Bounds;
 use rules::Patched;
 use rules::Reasoned;
+use rules::Reversed;
 use rules::Verdict;
 use stack::call::find_bounds;
 
@@ -61,6 +63,16 @@ pub extern "C" fn siodlomil_patch(
     ensures { λ _. ⌜ now (carried .exit) ≡ patchedAfter (patchCallVerdict (now (base .entry)) (now (patch .entry)) (now (map .entry)) (now (room .entry)) (now (carried .entry))) (now (base .entry)) (now (patch .entry)) (now (map .entry)) (now (carried .entry)) ⌝ }
 {
     apply_patch(base, patch, map, room, carried)
+}
+
+// Writes the reverse of a patch to the lent room as a patch image, and answers its length, which is the patch's. A refusal
+// answers its number and place, and writes nothing.
+#[no_mangle]
+pub extern "C" fn siodlomil_reverse(patch: &[u8], room: &mut [u8]) -> Reversed
+    ensures { λ r. ⌜ r ≡ reverseAnswer (now (patch .entry)) (now (room .entry)) ⌝ }
+    ensures { λ _. ⌜ now (room .exit) ≡ reverseAfter (now (patch .entry)) (now (room .entry)) ⌝ }
+{
+    reverse_patch(patch, room)
 }
 
 // Where the 32 bytes of refusal 9 stand in the patch image, and 0 and 0 where a patch call answers anything else.

@@ -162,7 +162,7 @@ module _ (patch : List ℕ) (right : accepted (patchVerdict patch) ≡ true) whe
   reverse-records = records-imageOf Patch (reversed (records patch)) (reversed-sized (records patch) (well-formed-of patch right .sized))
 
   -- as many as the patch
-  reverse-count : length (reversed (records patch)) ≡ recordCount patch
+  pub reverse-count : length (reversed (records patch)) ≡ recordCount patch
   reverse-count =
       reversed-length (records patch) (well-formed-ways (records patch) (well-formed-of patch right))
       ∙ length-upTo (recordAt patch) (recordCount patch)

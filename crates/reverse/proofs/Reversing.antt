@@ -1,0 +1,99 @@
+-- The reverse of an accepted patch: its records are the two parts of the patch, changed over, and their image is as long as the
+-- patch, so it is written wherever the room holds that.
+use Prim.Native.Nat.{ℕ, _*_, _-_, _%_, _≤_}
+use mathlib.Core.List.{List, []}
+use mathlib.Core.Bool.{true, not}
+use mathlib.Core.Path.{_≡_, ap, sym, _∙_}
+use native.Mathlib.Omega.{arith}
+use borrow.Author.Tests.{eq-eqb, le-leb}
+use lib.ListN.{length, getD, take, drop, length-drop}
+use lib.Seq.{take-all}
+use lib.Dec.{eqb}
+use Rattle.rules.specs.declared.Form.the-variants.{Patch}
+use Rattle.rules.specs.Numbers.{Bytes, lowest}
+use Rattle.rules.specs.Blocks.{records, recordCount, blocksFor, joined}
+use Rattle.rules.specs.Records.{wayOf}
+use Rattle.rules.specs.Patches.{withWay, reversed}
+use Rattle.rules.specs.Refusals.{accepted, patchVerdict}
+use Rattle.rules.specs.Calls.{over, reverseOf}
+use Rattle.rules.proofs.Numbers.{lowest-le}
+use Rattle.rules.proofs.Image.Frame.{frame-of, frame-accepted, records-fit}
+use Rattle.rules.proofs.Image.Parts.{Records, length-joined}
+use Rattle.rules.proofs.Image.Written.{length-imageOf}
+use Rattle.rules.proofs.Patch.WellFormed.{well-formed-of}
+use Rattle.rules.proofs.Patch.Reversed.{reversed-at, reversed-sized, reverse-count, reverse-length}
+use Rattle.image.specs.Write.{writable, writtenLength, writtenRoom}
+use Rattle.patch.proofs.Accepted.{as-many, puts-from, takes-below}
+use Rattle.patch.proofs.Writing.{count-joined, cut-joined}
+use Rattle.reverse.specs.Turned.{Behind}
+use Rattle.reverse.proofs.Growing.{behind-both, part}
+
+-- the number of the first record that a patch puts in, or the number of its records
+abbrev pub firstPutIn : List ℕ → ℕ
+firstPutIn patch = lowest (λ k. not (eqb (wayOf (getD (records patch) k [])) 0)) (recordCount patch)
+
+pub first-inside : (patch : List ℕ) → firstPutIn patch ≤ recordCount patch
+first-inside patch = lowest-le (λ k. not (eqb (wayOf (getD (records patch) k [])) 0)) (recordCount patch)
+
+-- an accepted patch
+module _ (patch : List ℕ) (right : accepted (patchVerdict patch) ≡ true) where
+  -- has at most 45 blocks
+  pub patch-long : length patch ≤ 23040
+  patch-long =
+      let f = frame-of Patch patch (frame-accepted Patch patch right) in
+      omega (arith, f .whole, f .not-too-many)
+
+  -- with at most 675 records
+  pub patch-few : recordCount patch ≤ 675
+  patch-few =
+      let f = frame-of Patch patch (frame-accepted Patch patch right) in
+      omega (arith, records-fit Patch patch f, f .not-too-many)
+
+  -- what it puts in, written to be taken out, and behind it what it takes out, written to be put in, are its reverse
+  pub reverse-written : Bytes patch → (first count : ℕ) → first ≡ firstPutIn patch → count ≡ recordCount patch
+      → (between written : ℕ) (flat middle later : List ℕ)
+      → Behind (part (records patch) 0 first count) 0 between flat middle
+      → Behind (part (records patch) 1 0 first) between written middle later
+      → Behind (reversed (records patch)) 0 written flat later
+  reverse-written bytes first count start end between written flat middle later taken put =
+      let ps = records patch in
+      let many : count ≡ length ps = end ∙ sym (as-many patch) in
+      let found = start ∙ ap (lowest (λ k. not (eqb (wayOf (getD ps k [])) 0))) (sym (as-many patch)) in
+      let inside : first ≤ length ps = omega (arith, first-inside patch) in
+      let rest : take (count - first) (drop first ps) ≡ drop first ps = take-all (count - first) (drop first ps) (rw length-drop (omega arith)) in
+      let front : first - 0 ≡ first = omega arith in
+      rw (reversed-at ps first inside (takes-below patch right first found) (puts-from patch right bytes first found))
+      (behind-both (withWay 0 (drop first ps)) (withWay 1 (take first ps)) 0 between written flat middle later (rw rest at taken) (rw front at put))
+
+  -- and they lie inside a list that has room for 675 records
+  pub reverse-inside : (written : ℕ) (flat later : List ℕ) → 21600 ≤ length flat → Behind (reversed (records patch)) 0 written flat later
+      → written ≤ length later
+  reverse-inside written flat later room behind = omega (arith, behind .size, behind .same-length, reverse-count patch right, patch-few)
+
+  -- the records of the reverse have 32 bytes each
+  sized : Records (reversed (records patch))
+  sized = reversed-sized (records patch) (well-formed-of patch right .sized)
+
+  -- and fill as many bytes, in whole blocks, as the patch has
+  blocks-long : 512 * blocksFor (length (reversed (records patch))) ≡ length patch
+  blocks-long = sym (length-imageOf Patch (reversed (records patch)) sized) ∙ reverse-length patch right
+
+  -- a room that holds as many has room for their image
+  module _ (room : List ℕ) (holds : length patch ≤ length room) where
+    reverse-writable : writable Patch (joined (reversed (records patch))) room ≡ true
+    unfolding writable
+    reverse-writable =
+        let rs = reversed (records patch) in
+        rw (
+          eq-eqb (length (joined rs) % 32) 0 (omega (arith, length-joined 32 rs sized)),
+          count-joined rs sized,
+          le-leb (blocksFor (length rs)) 45 (omega (arith, blocks-long, patch-long)),
+          le-leb (512 * blocksFor (length rs)) (length room) (omega (arith, blocks-long)),
+        )
+
+    -- which is written, as long as the patch
+    pub reverse-image : (flat : List ℕ) → flat ≡ joined (reversed (records patch))
+        → (writtenLength Patch flat room ≡ length patch) × (writtenRoom Patch flat room ≡ over (reverseOf patch) room)
+    reverse-image flat same =
+        let rs = reversed (records patch) in
+        rw same (rw (reverse-writable, count-joined rs sized) blocks-long, rw (reverse-writable, cut-joined rs sized))
