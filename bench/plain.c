@@ -12,3 +12,4 @@
 #include "plain/search.c"
 #include "plain/stack.c"
 #include "plain/patch.c"
+#include "plain/reverse.c"

@@ -25,6 +25,11 @@ struct plain_patched {
     uint32_t number, place, touched, length;
 };
 
+/* What a reverse call answers. */
+struct plain_reversed {
+    uint32_t number, place, length;
+};
+
 /* The sets that the ceilings have visited, and how many they may visit: a search past it ends early with a wrong answer. */
 extern uint64_t plain_sets_visited, plain_sets_allowed;
 
@@ -38,5 +43,7 @@ struct plain_reasoned plain_reason(const uint8_t *image, size_t bytes, uint32_t 
 struct plain_patched plain_patch(const uint8_t *base, size_t base_bytes, const uint8_t *patch, size_t patch_bytes,
                                  const uint64_t *map, size_t row_count, uint8_t *room, size_t room_bytes,
                                  uint64_t *carried, size_t carried_count);
+
+struct plain_reversed plain_reverse(const uint8_t *patch, size_t patch_bytes, uint8_t *room, size_t room_bytes);
 
 #endif

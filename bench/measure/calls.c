@@ -3,8 +3,9 @@
 
 #include <string.h>
 
-call *const calls[CALLS] = {call_verdict, call_map, call_bounds, call_reason, call_patch_verdict, call_patch};
-const char *const call_names[CALLS] = {"verdict", "map", "bounds", "reason", "patch verdict", "patch"};
+call *const calls[CALLS] = {call_verdict, call_map, call_bounds, call_reason, call_patch_verdict, call_patch,
+                            call_reverse};
+const char *const call_names[CALLS] = {"verdict", "map", "bounds", "reason", "patch verdict", "patch", "reverse"};
 
 /* The input's table. */
 static struct image table_of(const struct input *input)
@@ -60,6 +61,12 @@ void call_patch_verdict(const struct side *side, const struct input *input, stru
 void call_patch(const struct side *side, const struct input *input, struct answer *answer)
 {
     side->patch(table_of(input), patch_of(input), input->map, answer);
+}
+
+/* The reverse of the patch, which needs no table. */
+void call_reverse(const struct side *side, const struct input *input, struct answer *answer)
+{
+    side->reverse(patch_of(input), answer);
 }
 
 /* Gives an input that no map is lent for the map of its own table. */

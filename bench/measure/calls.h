@@ -13,11 +13,12 @@ call call_bare_bounds;
 call call_reason;
 call call_patch_verdict;
 call call_patch;
+call call_reverse;
 
 void lend_own_map(struct input *input);
 uint64_t sets_visited(const struct input *input, uint64_t allowed);
 
-enum { VERDICT, MAP, BOUNDS, REASON, PATCH_VERDICT, PATCH, CALLS };
+enum { VERDICT, MAP, BOUNDS, REASON, PATCH_VERDICT, PATCH, REVERSE, CALLS };
 
 extern call *const calls[CALLS];
 extern const char *const call_names[CALLS];

@@ -31,6 +31,7 @@ static void count_calls(struct input *input)
         if (takes_out(input))
             count(PATCH_VERDICT, input);
         count(PATCH, input);
+        count(REVERSE, input);
         return;
     }
     count(VERDICT, input);

@@ -1,4 +1,4 @@
-/* One input: an image with the map that is lent for its bounds and the ids asked about, and for a patch call the patch. */
+/* One input: an image with the map that is lent for its bounds and the ids asked about, and for calls on a patch the patch. */
 #ifndef INPUT_H
 #define INPUT_H
 

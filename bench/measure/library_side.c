@@ -33,4 +33,16 @@ static void patch(struct image base, struct image patch, const uint64_t *rows, s
     memcpy(answer->numbers, &patched, sizeof patched);
 }
 
-const struct side library_side = {.name = "library", .map = map, .bounds = bounds, .reason = reason, .patch = patch};
+/* Reverses a patch, with as much of the answer's room lent as the patch is long. */
+static void reverse(struct image patch, struct answer *answer)
+{
+    siodlomil_reverse_answer reversed = siodlomil_reverse(patch.bytes, patch.length, answer->room, patch.length);
+    memcpy(answer->numbers, &reversed, sizeof reversed);
+}
+
+const struct side library_side = {.name = "library",
+                                  .map = map,
+                                  .bounds = bounds,
+                                  .reason = reason,
+                                  .patch = patch,
+                                  .reverse = reverse};

@@ -99,6 +99,8 @@ static void measure(struct input *input)
         keep(class, PATCH_VERDICT, input, &answer);
     keep(class, PATCH, input, &answer);
     end_unless(answer.numbers[0] == 0, "a patch is refused", input);
+    keep(class, REVERSE, input, &answer);
+    end_unless(answer.numbers[0] == 0, "a reverse is refused", input);
 }
 
 /* Measures the inputs of a file and prints the tables, with the instructions that another file holds. */

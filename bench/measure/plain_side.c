@@ -33,10 +33,18 @@ static void patch(struct image base, struct image patch, const uint64_t *rows, s
     memcpy(answer->numbers, &patched, sizeof patched);
 }
 
+/* Reverses a patch, with as much of the answer's room lent as the patch is long. */
+static void reverse(struct image patch, struct answer *answer)
+{
+    struct plain_reversed reversed = plain_reverse(patch.bytes, patch.length, answer->room, patch.length);
+    memcpy(answer->numbers, &reversed, sizeof reversed);
+}
+
 const struct side SIDE = {.name = NAME,
                           .map = map,
                           .bounds = bounds,
                           .reason = reason,
                           .patch = patch,
+                          .reverse = reverse,
                           .sets_visited = &plain_sets_visited,
                           .sets_allowed = &plain_sets_allowed};

@@ -9,7 +9,7 @@ struct answer {
     uint32_t numbers[8];
     uint64_t rows[64];
     uint16_t ids[64];
-    uint8_t room[23 * 512];
+    uint8_t room[MOST_IMAGE_BYTES];
 };
 
 /* An image and its length. */
@@ -25,6 +25,7 @@ struct side {
     void (*bounds)(struct image image, const uint64_t *map, struct answer *answer);
     void (*reason)(struct image image, uint32_t low, uint32_t high, struct answer *answer);
     void (*patch)(struct image base, struct image patch, const uint64_t *map, struct answer *answer);
+    void (*reverse)(struct image patch, struct answer *answer);
     uint64_t *sets_visited, *sets_allowed;
 };
 

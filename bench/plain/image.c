@@ -5,6 +5,18 @@ enum { TABLE_BLOCKS = 23, PATCH_BLOCKS = 45 };
 
 enum form { TABLE, PATCH };
 
+/* The two letters that the blocks of a form begin with. */
+static const char *mark_of(enum form form)
+{
+    return form == TABLE ? "TB" : "PA";
+}
+
+/* The most blocks that an image of a form has. */
+static size_t most_blocks(enum form form)
+{
+    return form == TABLE ? TABLE_BLOCKS : PATCH_BLOCKS;
+}
+
 /* The little-endian number of two bytes. */
 static uint32_t two_bytes(const uint8_t *at)
 {
@@ -68,7 +80,7 @@ static bool is_count_right(size_t total, size_t b, uint32_t count)
 /* Whether the header, the count or the zero fill of block b of total is wrong. */
 static bool is_header_wrong(enum form form, size_t total, size_t b, const uint8_t *block)
 {
-    const char *mark = form == TABLE ? "TB" : "PA";
+    const char *mark = mark_of(form);
     if (block[0] != mark[0] || block[1] != mark[1] || block[2] != b || block[3] != total)
         return true;
     uint32_t count = block[4];
@@ -81,7 +93,7 @@ static bool is_header_wrong(enum form form, size_t total, size_t b, const uint8_
 static struct plain_verdict frame_verdict(enum form form, const uint8_t *image, size_t bytes)
 {
     size_t total = bytes / BLOCK_BYTES;
-    if (bytes == 0 || bytes % BLOCK_BYTES != 0 || total > (form == TABLE ? TABLE_BLOCKS : PATCH_BLOCKS))
+    if (bytes == 0 || bytes % BLOCK_BYTES != 0 || total > most_blocks(form))
         return refusal(form, 1, 0);
     for (size_t b = 0; b < total; b++) {
         const uint8_t *block = image + BLOCK_BYTES * b;
@@ -94,10 +106,10 @@ static struct plain_verdict frame_verdict(enum form form, const uint8_t *image, 
     return (struct plain_verdict){0, 0};
 }
 
-/* Writes the whole of block b of a table with total blocks. */
-static void write_block(size_t total, size_t b, const uint8_t *records, size_t bytes, uint8_t *block)
+/* Writes the whole of block b of total. */
+static void write_block(enum form form, size_t total, size_t b, const uint8_t *records, size_t bytes, uint8_t *block)
 {
-    memcpy(block, "TB", 2);
+    memcpy(block, mark_of(form), 2);
     block[2] = (uint8_t)b;
     block[3] = (uint8_t)total;
     block[4] = (uint8_t)(bytes / RECORD_BYTES);
@@ -109,18 +121,18 @@ static void write_block(size_t total, size_t b, const uint8_t *records, size_t b
     block[511] = (uint8_t)(check / 256);
 }
 
-/* Writes the table image of records that lie one after another, and answers its length: 0 for more blocks than a table has. */
-static size_t write_image(const uint8_t *records, size_t bytes, uint8_t *room)
+/* Writes the image of records that lie one after another, and answers its length: 0 for more blocks than the form may have. */
+static size_t write_image(enum form form, const uint8_t *records, size_t bytes, uint8_t *room)
 {
     size_t total = (bytes / RECORD_BYTES + RECORDS_PER_BLOCK - 1) / RECORDS_PER_BLOCK;
     if (total == 0)
         total = 1;
-    if (total > TABLE_BLOCKS)
+    if (total > most_blocks(form))
         return 0;
     for (size_t b = 0; b < total; b++) {
         size_t from = PLACES_BYTES * b;
         size_t part = bytes - from < PLACES_BYTES ? bytes - from : PLACES_BYTES;
-        write_block(total, b, records + from, part, room + BLOCK_BYTES * b);
+        write_block(form, total, b, records + from, part, room + BLOCK_BYTES * b);
     }
     return BLOCK_BYTES * total;
 }
