@@ -1,19 +1,19 @@
 -- What is put in and taken out again leaves a list as it was, and so does what is taken out and put in again: so the outcome
 -- of the reverse on the outcome is the base.
-use Prim.Native.Nat.{ℕ, _≤_}
+use Prim.Native.Nat.{ℕ}
 use mathlib.Core.List.{List, [], _∷_, foldr}
-use mathlib.Core.Bool.{true, false, _&&_, _||_, not, or-true}
+use mathlib.Core.Bool.{true, false, not, or-true}
 use mathlib.Core.Path.{_≡_, refl, ap, sym, _∙_}
 use native.Mathlib.Omega.{arith}
 use borrow.Author.Tests.{le-leb, lt-leb}
-use lib.ListN.{length, getD}
+use lib.ListN.{getD}
 use lib.Dec.{leb}
 use Rattle.rules.specs.Records.{key}
 use Rattle.rules.specs.Patches.{same, has, takenOut, putIn, without, put, outcome}
 use Rattle.rules.proofs.Numbers.{either, never}
 use Rattle.rules.proofs.Tests.{both-first, neither-second}
 use Rattle.rules.proofs.Table.Order.{Rises, rises-rest, rises-front}
-use Rattle.rules.proofs.Patch.Members.{same-refl, same-equal, same-other, same-sym, has-at, has-without, has-put, has-puts, has-first, has-more, put-front}
+use Rattle.rules.proofs.Patch.Members.{same-equal, same-other, same-sym, has-at, has-without, has-put, has-puts, has-first, has-more, put-front}
 use Rattle.rules.proofs.Patch.Rising.{first-below}
 
 -- a record of a list that is put in and taken out with that list

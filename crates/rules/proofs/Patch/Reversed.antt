@@ -14,7 +14,7 @@ use Rattle.rules.specs.Numbers.{Bytes}
 use Rattle.rules.specs.Blocks.{records, recordAt, recordCount}
 use Rattle.rules.specs.Records.{wayOf, key, imageKey, formWrong, rangeWrong, ofKind, mostOf, countOf, tooMany}
 use Rattle.rules.specs.Patches.{has, takenOut, putIn, withWay, reversed}
-use Rattle.rules.specs.Refusals.{accepted, fine, countRefusal, patchVerdict}
+use Rattle.rules.specs.Refusals.{accepted, fine, patchVerdict}
 use Rattle.rules.specs.Calls.{reverseOf}
 use Rattle.rules.proofs.Numbers.{either, length-upTo}
 use Rattle.rules.proofs.Image.Parts.{Records}

@@ -1,12 +1,12 @@
 -- Lists of records whose numbers rise: one list behind another, and the two parts of a patch.
 use Prim.Native.Nat.{ℕ, zero, suc, _-_, _<_}
 use mathlib.Core.List.{List, [], _∷_, _++_}
-use mathlib.Core.Bool.{true, false, _&&_}
+use mathlib.Core.Bool.{true, false}
 use mathlib.Core.Path.{_≡_, sym, _∙_}
 use native.Mathlib.Omega.{arith}
 use borrow.Author.Tests.{lt-leb, ltb-true, eqb-true}
 use lib.ListN.{length, getD, set}
-use lib.Dec.{ltb, leb, eqb}
+use lib.Dec.{ltb, eqb}
 use Rattle.rules.specs.Records.{wayOf, key, imageKey}
 use Rattle.rules.specs.Patches.{has, takenOut, putIn}
 use Rattle.rules.specs.Refusals.{orderWrong}

@@ -16,7 +16,7 @@ use Rattle.rules.specs.Preempt.{decided, mapOf}
 use Rattle.rules.specs.Patches.{has, takenOut, putIn, outcome, reversed, patchedMap}
 use Rattle.rules.specs.Refusals.{accepted, fine, tableVerdict, patchVerdict, absentRefusal}
 use Rattle.rules.specs.Calls.{over, patchCallVerdict, reverseOf}
-use Rattle.rules.specs.Runs.{Step, State, called, acceptable, back, TakenOff, TakesOff}
+use Rattle.rules.specs.Runs.{Step, State, called, back, TakesOff}
 use Rattle.rules.proofs.Tests.{both-first, both-second}
 use Rattle.rules.proofs.Refusals.{accepted-first}
 use Rattle.rules.proofs.Maps.{map-length}

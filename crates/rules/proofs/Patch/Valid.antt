@@ -8,9 +8,9 @@ use lib.ListN.{length, getD}
 use Rattle.rules.specs.declared.Form.the-variants.{Table}
 use Rattle.rules.specs.declared.Verdict.{Verdict}
 use Rattle.rules.specs.Blocks.{records, imageOf}
-use Rattle.rules.specs.Records.{numberOf, key, formWrong, rangeWrong, tooMany, referenceWrong, transactions, tasks, taskCount}
-use Rattle.rules.specs.Refusals.{accepted, fine, orElse, refuseIf, formRefusal, orderWrong, orderRefusal, rangeRefusal, countRefusal, referenceRefusal, frameVerdict, recordsVerdict, tableVerdict, broken}
-use Rattle.rules.proofs.Refusals.{accepted-first, accepted-second, accepted-parts, fine-both, fine-at, accepted-if, accepted-at}
+use Rattle.rules.specs.Records.{numberOf, key, referenceWrong, transactions, tasks, taskCount}
+use Rattle.rules.specs.Refusals.{accepted, fine, orElse, orderWrong, orderRefusal, countRefusal, referenceRefusal, frameVerdict, recordsVerdict, tableVerdict, broken}
+use Rattle.rules.proofs.Refusals.{accepted-parts, fine-both, fine-at, accepted-at}
 use Rattle.rules.proofs.Image.Parts.{Records}
 use Rattle.rules.proofs.Image.Frame.{frame-accepted, frame-of, records-sized}
 use Rattle.rules.proofs.Image.Written.{frame-imageOf, records-imageOf}

@@ -2,18 +2,18 @@
 -- the one part before the other.
 use Prim.Native.Nat.{ℕ, zero, suc, _+_, _≤_, _<_}
 use mathlib.Core.List.{List, [], _∷_, _++_}
-use mathlib.Core.Bool.{true, false, cond, _&&_}
+use mathlib.Core.Bool.{_&&_}
 use mathlib.Core.Path.{_≡_, refl, ap, sym, _∙_}
 use native.Mathlib.Omega.{arith}
 use borrow.Author.Tests.{eqb-true, eqb-false, eq-eqb, ne-eqb}
-use lib.ListN.{length, getD, set, take, drop, length-append}
+use lib.ListN.{length, getD, set, length-append}
 use lib.Seq.{set-set, set-getD}
 use lib.Dec.{eqb}
 use Rattle.rules.specs.Numbers.{upTo, sumTo, countTo}
 use Rattle.rules.specs.Records.{kindOf, wayOf, ofKind, countOf}
 use Rattle.rules.specs.Patches.{takenOut, putIn, withWay}
 use Rattle.rules.proofs.Numbers.{either}
-use Rattle.rules.proofs.Image.Parts.{Records, sized-rest}
+use Rattle.rules.proofs.Image.Parts.{Records}
 use Rattle.rules.proofs.Table.Kinds.{ofKind-append, upTo-elements}
 use Rattle.rules.proofs.Patch.Turned.{turned-kind, turned-way, way-within}
 
@@ -78,37 +78,33 @@ withWay-same way (r ∷ rs) ways =
     let first : set r 31 way ≡ r = ap (set r 31) (sym (ways zero (omega arith))) ∙ set-getD r 31 0 in
     rw (first, withWay-same way rs (λ k l. ways (suc k) (omega arith)))
 
--- where each record is taken out
-module _ where
-  -- the first part is all
-  pub all-takenOut : (rs : List (List ℕ)) → ((k : ℕ) → k < length rs → wayOf (getD rs k []) ≡ 0) → takenOut rs ≡ rs
-  unfolding takenOut
-  all-takenOut [] ways = refl
-  all-takenOut (r ∷ rs) ways =
-      takenOut-first r rs (ways zero (omega arith)) ∙ rw (all-takenOut rs (λ k l. ways (suc k) (omega arith)))
+-- where each record is taken out, the first part is all
+pub all-takenOut : (rs : List (List ℕ)) → ((k : ℕ) → k < length rs → wayOf (getD rs k []) ≡ 0) → takenOut rs ≡ rs
+unfolding takenOut
+all-takenOut [] ways = refl
+all-takenOut (r ∷ rs) ways =
+    takenOut-first r rs (ways zero (omega arith)) ∙ rw (all-takenOut rs (λ k l. ways (suc k) (omega arith)))
 
-  -- and the second has none
-  pub none-putIn : (rs : List (List ℕ)) → ((k : ℕ) → k < length rs → wayOf (getD rs k []) ≡ 0) → putIn rs ≡ []
-  unfolding putIn
-  none-putIn [] ways = refl
-  none-putIn (r ∷ rs) ways =
-      putIn-other r rs (ways zero (omega arith)) ∙ none-putIn rs (λ k l. ways (suc k) (omega arith))
+-- and the second has none
+pub none-putIn : (rs : List (List ℕ)) → ((k : ℕ) → k < length rs → wayOf (getD rs k []) ≡ 0) → putIn rs ≡ []
+unfolding putIn
+none-putIn [] ways = refl
+none-putIn (r ∷ rs) ways =
+    putIn-other r rs (ways zero (omega arith)) ∙ none-putIn rs (λ k l. ways (suc k) (omega arith))
 
--- where each record is put in
-module _ where
-  -- the first part has none
-  pub none-takenOut : (rs : List (List ℕ)) → ((k : ℕ) → k < length rs → wayOf (getD rs k []) ≡ 1) → takenOut rs ≡ []
-  unfolding takenOut
-  none-takenOut [] ways = refl
-  none-takenOut (r ∷ rs) ways =
-      takenOut-other r rs (ways zero (omega arith)) ∙ none-takenOut rs (λ k l. ways (suc k) (omega arith))
+-- where each record is put in, the first part has none
+pub none-takenOut : (rs : List (List ℕ)) → ((k : ℕ) → k < length rs → wayOf (getD rs k []) ≡ 1) → takenOut rs ≡ []
+unfolding takenOut
+none-takenOut [] ways = refl
+none-takenOut (r ∷ rs) ways =
+    takenOut-other r rs (ways zero (omega arith)) ∙ none-takenOut rs (λ k l. ways (suc k) (omega arith))
 
-  -- and the second is all, with byte 31 at 0
-  pub all-putIn : (rs : List (List ℕ)) → ((k : ℕ) → k < length rs → wayOf (getD rs k []) ≡ 1) → putIn rs ≡ withWay 0 rs
-  unfolding putIn withWay
-  all-putIn [] ways = refl
-  all-putIn (r ∷ rs) ways =
-      putIn-first r rs (ways zero (omega arith)) ∙ rw (all-putIn rs (λ k l. ways (suc k) (omega arith)))
+-- and the second is all, with byte 31 at 0
+pub all-putIn : (rs : List (List ℕ)) → ((k : ℕ) → k < length rs → wayOf (getD rs k []) ≡ 1) → putIn rs ≡ withWay 0 rs
+unfolding putIn withWay
+all-putIn [] ways = refl
+all-putIn (r ∷ rs) ways =
+    putIn-first r rs (ways zero (omega arith)) ∙ rw (all-putIn rs (λ k l. ways (suc k) (omega arith)))
 
 -- of records of 32 bytes with another byte 31, each has that one
 pub withWay-ways : (way : ℕ) (rs : List (List ℕ)) → Records rs → (k : ℕ) → k < length (withWay way rs) → wayOf (getD (withWay way rs) k []) ≡ way

@@ -7,7 +7,7 @@ use mathlib.Core.Path.{_≡_}
 use native.Mathlib.Omega.{arith}
 use borrow.Author.Tests.{ltb-false}
 use lib.ListN.{length, getD}
-use lib.Dec.{eqb, ltb}
+use lib.Dec.{eqb}
 use Rattle.rules.specs.declared.Form.the-variants.{Patch}
 use Rattle.rules.specs.Numbers.{Bytes, between}
 use Rattle.rules.specs.Blocks.{records, imageOf}

@@ -17,7 +17,7 @@ use Rattle.rules.specs.Refusals.{accepted, fine, orElse, refuseIf, numbe
 use Rattle.rules.proofs.Numbers.{either, length-upTo, getD-upTo}
 use Rattle.rules.proofs.Bytes.{part-bytes}
 use Rattle.rules.proofs.Tests.{neither-first, neither-second}
-use Rattle.rules.proofs.Refusals.{numbered-some, accepted-first, accepted-second, fine-both, no-fault, no-fault-at, fine-at, fine-if}
+use Rattle.rules.proofs.Refusals.{numbered-some, accepted-first, accepted-second, fine-both, no-fault, no-fault-at, fine-at}
 use Rattle.rules.proofs.Table.Kinds.{Known, Grouped, Split, split-of, length-split, transaction-at, task-at, pair-at, transaction-kind, task-kind, pair-kind, count-ofKind, ofKind-all}
 use Rattle.rules.proofs.Table.Ranges.{between-least, between-most, transaction-right, task-right, pair-right}
 use Rattle.rules.proofs.Table.Order.{Rises, rises-of-next, order-right, kind-rises, numbers-rise}
