@@ -7,6 +7,7 @@ use mathlib.Core.Path.{_≡_}
 use lib.ListN.{length, take}
 use lib.Dec.{leb}
 use Rattle.rules.specs.declared.Form.the-variants.{Table}
+use Rattle.rules.specs.declared.Verdict.{Verdict}
 use Rattle.rules.specs.Numbers.{Bytes}
 use Rattle.rules.specs.Blocks.{records, imageOf}
 use Rattle.rules.specs.Preempt.{mapOf}
@@ -68,30 +69,35 @@ Demand3 image rows ps =
     Bytes image → accepted (tableVerdict image) ≡ true → rows ≡ over (mapOf (records image)) rows
     → calls (record { image = image; rows = rows }) ps ≡ afreshAfter (records image) rows ps
 
--- the reverse of a step's patch, with other rooms lent for it
+-- the way back from what a patch left: the reverse of the patch is put to it, with this map and these rooms lent
 abbrev pub back : Step → List ℕ → List ℕ → Step
 back p room rows = record { patch = reverseOf (p .patch); room = room; rows = rows }
 
--- of a table with its map and a patch that is accepted there: what the reverse does to the outcome, with any map lent
+abbrev pub backVerdict : State → Step → List ℕ → List ℕ → List ℕ → Verdict
+backVerdict s p lent room rows = patchCallVerdict (called s p .image) (reverseOf (p .patch)) lent room rows
+
+-- what the way back leaves
+abbrev pub broughtBack : State → Step → List ℕ → List ℕ → List ℕ → State
+broughtBack s p lent room rows = called (record { image = called s p .image; rows = lent }) (back p room rows)
+
+-- a patch that was put to a table with its map can be taken off again
 pub record TakenOff (s : State) (p : Step) : Type 0 where
-  -- it is accepted exactly when the lent map and rooms suffice
+  -- the reverse is accepted exactly when the lent map and rooms suffice
   pub accepted-back :
       (lent room rows : List ℕ)
-      → accepted (patchCallVerdict (called s p .image) (reverseOf (p .patch)) lent room rows)
+      → accepted (backVerdict s p lent room rows)
       ≡ (leb 64 (length lent) && (leb 64 (length rows) && leb (length (s .image)) (length room)))
-  -- and then gives the table back, byte for byte
+  -- then the table is given back, byte for byte
   pub image-back :
-      (lent room rows : List ℕ)
-      → accepted (patchCallVerdict (called s p .image) (reverseOf (p .patch)) lent room rows) ≡ true
-      → called (record { image = called s p .image; rows = lent }) (back p room rows) .image ≡ s .image
-  -- with the table's true map at first, and what the patch made of it lent, its 64 rows are given back
+      (lent room rows : List ℕ) → accepted (backVerdict s p lent room rows) ≡ true
+      → broughtBack s p lent room rows .image ≡ s .image
+  -- and with a true first map, where the map that the patch left is lent, its 64 rows
   pub rows-back :
-      (room rows : List ℕ)
-      → s .rows ≡ over (mapOf (records (s .image))) (s .rows)
-      → accepted (patchCallVerdict (called s p .image) (reverseOf (p .patch)) (called s p .rows) room rows) ≡ true
-      → called (called s p) (back p room rows) .rows ≡ over (take 64 (s .rows)) rows
+      (room rows : List ℕ) → s .rows ≡ over (mapOf (records (s .image))) (s .rows)
+      → accepted (backVerdict s p (called s p .rows) room rows) ≡ true
+      → broughtBack s p (called s p .rows) room rows .rows ≡ over (take 64 (s .rows)) rows
 
--- request k): whatever is accepted can be taken off again
+-- request k): so can every patch that is accepted
 abbrev pub TakesOff : State → Step → Type 0
 TakesOff s p =
     Bytes (s .image) → Bytes (p .patch)

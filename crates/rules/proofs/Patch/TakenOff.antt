@@ -16,7 +16,7 @@ use Rattle.rules.specs.Preempt.{decided, mapOf}
 use Rattle.rules.specs.Patches.{has, takenOut, putIn, outcome, reversed, patchedMap}
 use Rattle.rules.specs.Refusals.{accepted, fine, tableVerdict, patchVerdict, absentRefusal}
 use Rattle.rules.specs.Calls.{over, patchCallVerdict, reverseOf}
-use Rattle.rules.specs.Runs.{Step, State, called, back, TakesOff}
+use Rattle.rules.specs.Runs.{Step, State, called, back, backVerdict, broughtBack, TakesOff}
 use Rattle.rules.proofs.Tests.{both-first, both-second}
 use Rattle.rules.proofs.Refusals.{accepted-first}
 use Rattle.rules.proofs.Maps.{map-length}
@@ -35,12 +35,15 @@ use Rattle.rules.proofs.Patch.Exactly.{Suits, accepted-acceptable, acce
 use Rattle.rules.proofs.Patch.TrueMap.{patched-true}
 use Rattle.rules.proofs.Patch.Run.{patchedState, over-again, called-accepted}
 
--- the records of a table, and of a step's patch
+-- the records of a table, of a step's patch, and of their outcome
 abbrev tableOf : State → List (List ℕ)
 tableOf s = records (s .image)
 
 abbrev patchOf : Step → List (List ℕ)
 patchOf p = records (p .patch)
+
+abbrev outcomeOf : State → Step → List (List ℕ)
+outcomeOf s p = outcome (tableOf s) (patchOf p)
 
 -- a table with its map, and a patch that is accepted there
 module _ (s : State) (p : Step) (taken : accepted (patchCallVerdict (s .image) (p .patch) (s .rows) (p .room) (p .rows)) ≡ true) where
@@ -57,11 +60,11 @@ module _ (s : State) (p : Step) (taken : accepted (patchCallVerdict (s .image) (
   suits = accepted-suits (s .image) (p .patch) (s .rows) (p .room) (p .rows) table right taken
 
   -- so is the outcome
-  sized : Records (outcome (tableOf s) (patchOf p))
+  sized : Records (outcomeOf s p)
   sized = outcome-sized (s .image) (p .patch) table right
 
-  after : Valid (outcome (tableOf s) (patchOf p))
-  after = valid-imageOf (outcome (tableOf s) (patchOf p)) sized (suits .table)
+  after : Valid (outcomeOf s p)
+  after = valid-imageOf (outcomeOf s p) sized (suits .table)
 
   -- which the call leaves
   left : called s p ≡ patchedState (tableOf s) (patchOf p) (s .rows) (p .rows)
@@ -77,27 +80,27 @@ module _ (s : State) (p : Step) (taken : accepted (patchCallVerdict (s .image) (
       rw (e′ ∙ e) at (has-at (tableOf s) n there)
 
   -- so the reverse leads back to the base
-  pub restored : outcome (outcome (tableOf s) (patchOf p)) (reversed (patchOf p)) ≡ (tableOf s)
+  pub restored : outcome (outcomeOf s p) (reversed (patchOf p)) ≡ (tableOf s)
   restored =
       let patched = well-formed-of (p .patch) right in
       outcome-back (tableOf s) (patchOf p) (reversed (patchOf p)) (reversed-takes (patchOf p) (patched .sized)) (reversed-puts (patchOf p) (patched .sized))
       (valid-keys-rise (tableOf s) (valid-of (s .image) table)) (takenOut-rises (patchOf p) (well-formed-rises (patchOf p) patched)) stood
-      (valid-keys-rise (outcome (tableOf s) (patchOf p)) after)
+      (valid-keys-rise (outcomeOf s p) after)
 
   -- also as it stands in the images
   returned : outcome (records (called s p .image)) (records (reverseOf (p .patch))) ≡ (tableOf s)
   returned =
       ap (λ (t : State). outcome (records (t .image)) (records (reverseOf (p .patch)))) left
-      ∙ rw (records-imageOf Table (outcome (tableOf s) (patchOf p)) sized, reverse-records (p .patch) right) restored
+      ∙ rw (records-imageOf Table (outcomeOf s p) sized, reverse-records (p .patch) right) restored
 
   -- what the reverse takes out was put in, so it stands in the outcome
-  stands : absentRefusal (outcome (tableOf s) (patchOf p)) (reversed (patchOf p)) ≡ fine
+  stands : absentRefusal (outcomeOf s p) (reversed (patchOf p)) ≡ fine
   stands =
-      stands-absent (outcome (tableOf s) (patchOf p)) (reversed (patchOf p))
+      stands-absent (outcomeOf s p) (reversed (patchOf p))
       (λ k l way.
       let r = getD (reversed (patchOf p)) k [] in
       let put : has (putIn (patchOf p)) r ≡ true = ap (λ (rs : List (List ℕ)). has rs r) (sym (reversed-takes (patchOf p) (well-formed-of (p .patch) right .sized))) ∙ has-takenOut (reversed (patchOf p)) r ∙ rw (has-at (reversed (patchOf p)) k l, eq-eqb (wayOf r) 0 way) in
-      has-place (outcome (tableOf s) (patchOf p)) r (has-outcome (tableOf s) (patchOf p) r ∙ rw put))
+      has-place (outcomeOf s p) r (has-outcome (tableOf s) (patchOf p) r ∙ rw put))
 
   -- both are of bytes
   module _ (bytes : Bytes (s .image)) (patch-bytes : Bytes (p .patch)) where
@@ -106,14 +109,14 @@ module _ (s : State) (p : Step) (taken : accepted (patchCallVerdict (s .image) (
     same = imageOf-records Table (s .image) bytes (frame-accepted Table (s .image) table)
 
     -- the reverse is accepted exactly when the lent map and rooms suffice
-    pub back-accepted : (lent room rows : List ℕ) → accepted (patchCallVerdict (called s p .image) (reverseOf (p .patch)) lent room rows)
+    pub back-accepted : (lent room rows : List ℕ) → accepted (backVerdict s p lent room rows)
         ≡ (leb 64 (length lent) && (leb 64 (length rows) && leb (length (s .image)) (length room)))
     back-accepted lent room rows =
         ap (λ (t : State). accepted (patchCallVerdict (t .image) (reverseOf (p .patch)) lent room rows)) left
-        ∙ accepted-acceptable (imageOf Table (outcome (tableOf s) (patchOf p))) lent (back p room rows) (ap accepted (table-of-valid (outcome (tableOf s) (patchOf p)) after))
+        ∙ accepted-acceptable (imageOf Table (outcomeOf s p)) lent (back p room rows) (ap accepted (table-of-valid (outcomeOf s p) after))
         ∙ rw (
           reverse-accepted (p .patch) right patch-bytes,
-          records-imageOf Table (outcome (tableOf s) (patchOf p)) sized,
+          records-imageOf Table (outcomeOf s p) sized,
           reverse-records (p .patch) right,
           stands,
           restored,
@@ -122,8 +125,8 @@ module _ (s : State) (p : Step) (taken : accepted (patchCallVerdict (s .image) (
         )
 
     -- what it leaves then, whatever map was lent
-    back-left : (lent room rows : List ℕ) → accepted (patchCallVerdict (called s p .image) (reverseOf (p .patch)) lent room rows) ≡ true
-        → called (record { image = called s p .image; rows = lent }) (back p room rows)
+    back-left : (lent room rows : List ℕ) → accepted (backVerdict s p lent room rows) ≡ true
+        → broughtBack s p lent room rows
         ≡ patchedState (records (called s p .image)) (records (reverseOf (p .patch))) lent rows
     back-left lent room rows h =
         called-accepted (record { image = called s p .image; rows = lent }) (back p room rows)
@@ -135,11 +138,11 @@ module _ (s : State) (p : Step) (taken : accepted (patchCallVerdict (s .image) (
     back-map true-map =
         ap (λ (t : State). patchedMap (records (t .image)) (records (reverseOf (p .patch))) (t .rows)) left
         ∙ rw (
-          records-imageOf Table (outcome (tableOf s) (patchOf p)) sized,
+          records-imageOf Table (outcomeOf s p) sized,
           reverse-records (p .patch) right,
           patched-true (tableOf s) (patchOf p) (s .rows) (valid-of (s .image) table) after true-map,
         )
-        (patched-true (outcome (tableOf s) (patchOf p)) (reversed (patchOf p)) (over (mapOf (outcome (tableOf s) (patchOf p))) (p .rows)) after (rw restored (valid-of (s .image) table)) (over-again (outcome (tableOf s) (patchOf p)) (p .rows))
+        (patched-true (outcomeOf s p) (reversed (patchOf p)) (over (mapOf (outcomeOf s p)) (p .rows)) after (rw restored (valid-of (s .image) table)) (over-again (outcomeOf s p) (p .rows))
         ∙ ap mapOf restored)
 
 -- request k): whatever is accepted can be taken off again
