@@ -2,7 +2,7 @@
 use Prim.Native.Nat.{ℕ, _≤_, _<_}
 use mathlib.Core.List.{List}
 use mathlib.Core.Bool.{true, false}
-use mathlib.Core.Path.{_≡_, sym, _∙_}
+use mathlib.Core.Path.{_≡_, refl, sym, _∙_}
 use borrow.Author.Tests.{lt-ltb, le-ltb}
 use lib.ListN.{length}
 use Rattle.rules.specs.declared.Reversed.{Reversed}
@@ -22,17 +22,17 @@ module _ (patch room : List ℕ) where
   -- a refused patch: its refusal, and nothing written
   pub reverse-refused : accepted (patchVerdict patch) ≡ false → ReverseCall patch room (reverseRefusal (patchVerdict patch)) room
   unfolding reverseVerdict
-  reverse-refused h = (rw (h, h), rw (h, h))
+  reverse-refused h = rw (h, h) (refl, refl)
 
   -- an accepted patch
   module _ (right : accepted (patchVerdict patch) ≡ true) where
     -- and too short a room: 11, and nothing written
     pub reverse-short : length room < length patch → ReverseCall patch room (reverseRefusal (refusal 11 0)) room
     unfolding reverseVerdict
-    reverse-short h = (rw (right, lt-ltb (length room) (length patch) h), rw (right, lt-ltb (length room) (length patch) h))
+    reverse-short h = rw (right, lt-ltb (length room) (length patch) h) (refl, refl)
 
     -- and room enough: the patch's length, and the reverse over the start of the room
     pub reverse-done : length patch ≤ length room
         → ReverseCall patch room (record { number = 0; place = 0; length = length patch }) (over (reverseOf patch) room)
     unfolding reverseVerdict
-    reverse-done h = (rw (right, le-ltb (length room) (length patch) h), rw (right, le-ltb (length room) (length patch) h))
+    reverse-done h = rw (right, le-ltb (length room) (length patch) h) (refl, refl)

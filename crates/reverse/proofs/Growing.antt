@@ -5,8 +5,8 @@ use mathlib.Core.List.{List, [], _∷_, _++_, append-assoc, append-nil}
 use mathlib.Core.Bool.{true}
 use mathlib.Core.Path.{_≡_, refl, _∙_}
 use native.Mathlib.Omega.{arith}
-use lib.ListN.{length, getD, set, take, drop, length-append, length-set, length-drop}
-use lib.Seq.{length-take-le, take-suc, getD-drop}
+use lib.ListN.{length, getD, set, take, drop, length-append, length-set, length-take, length-drop}
+use lib.Seq.{take-suc, getD-drop}
 use Rattle.rules.specs.Blocks.{records, recordCount}
 use Rattle.rules.specs.Patches.{withWay}
 use Rattle.rules.specs.Refusals.{accepted, patchVerdict}
@@ -31,19 +31,29 @@ behind-one r flat before long fits =
       bytes = rw append-nil (front-written r flat before long fits);
     }
 
--- one list of records, and another behind it
-pub behind-both : (rs ss : List (List ℕ)) (before between written : ℕ) (flat middle later : List ℕ)
-    → Behind rs before between flat middle → Behind ss between written middle later → Behind (rs ++ ss) before written flat later
-behind-both rs ss before between written flat middle later first second =
-    record {
+-- one list of records, and another behind it, that are all of these
+pub behind-both : (rs ss all : List (List ℕ)) (before between written : ℕ) (flat middle later : List ℕ)
+    → Behind rs before between flat middle → Behind ss between written middle later → rs ++ ss ≡ all → Behind all before written flat later
+behind-both rs ss all before between written flat middle later first second together =
+    rw (← together)
+    (record {
       size = rw length-append (omega (arith, first .size, second .size));
       same-length = second .same-length ∙ first .same-length;
       bytes = second .bytes ∙ rw (first .bytes, joined-append, append-assoc);
-    }
+    })
 
 -- the records from one number up to another, each with this byte 31
 abbrev pub part : List (List ℕ) → ℕ → ℕ → ℕ → List (List ℕ)
 part ps way from to = withWay way (take (to - from) (drop from ps))
+
+-- with one record more
+part-more : (ps : List (List ℕ)) (way from k : ℕ) → from ≤ k → k < length ps → part ps way from k ++ (set (getD ps k []) 31 way ∷ []) ≡ part ps way from (k + 1)
+unfolding withWay
+part-more ps way from k forward inside =
+    let count : k + 1 - from ≡ suc (k - from) = omega arith in
+    let there : k - from < length (drop from ps) = rw length-drop (omega arith) in
+    let place : from + (k - from) ≡ k = omega arith in
+    rw (count, take-suc (drop from ps) (k - from) [] there, getD-drop, place, withWay-append)
 
 -- of the part of a patch that is to be written, the records up to number k are
 pub record Growing (ps : List (List ℕ)) (way from to before k written : ℕ) (flat later : List ℕ) : Type 0 where
@@ -76,25 +86,19 @@ module _ (patch : List ℕ) (way from to before : ℕ) (flat : List ℕ) (right 
       -- there is room for it
       pub growing-fits : written + 32 ≤ length later
       growing-fits =
-          let ps = records patch in
-          let there : k - from ≤ length (drop from ps) = rw length-drop (omega (arith, as-many patch)) in
-          let size : length (part ps way from k) ≡ k - from = rw (length-withWay way (take (k - from) (drop from ps)), length-take-le (k - from) (drop from ps) there) in
-          omega (arith, g .behind .size, g .behind .same-length, g .forward)
+          let size = simp (length-withWay, length-take, length-drop) at (g .behind .size) in
+          omega (arith, size, g .behind .same-length, g .forward, as-many patch)
 
       -- and where it is written, those up to number k + 1 are
       pub growing-more : Growing (records patch) way from to before (k + 1) (written + 32) flat (withRecord written (set (getD (records patch) k []) 31 way) later)
-      unfolding withWay
       growing-more =
           let ps = records patch in
           let r = set (getD ps k []) 31 way in
-          let count : k + 1 - from ≡ suc (k - from) = omega (arith, g .forward) in
-          let there : k - from < length (drop from ps) = rw length-drop (omega (arith, as-many patch, g .forward)) in
-          let place : from + (k - from) ≡ k = omega (arith, g .forward) in
           record {
             forward = omega (arith, g .forward);
             inside = omega arith;
             behind =
-                rw (count, take-suc (drop from ps) (k - from) [] there, getD-drop, place, withWay-append)
-                (behind-both (part ps way from k) (r ∷ []) before written (written + 32) flat later (withRecord written r later) (g .behind)
-                (behind-one r later written (length-set (getD ps k []) 31 way ∙ growing-next) growing-fits));
+                behind-both (part ps way from k) (r ∷ []) (part ps way from (k + 1)) before written (written + 32) flat later (withRecord written r later) (g .behind)
+                (behind-one r later written (length-set (getD ps k []) 31 way ∙ growing-next) growing-fits)
+                (part-more ps way from k (g .forward) (omega (arith, as-many patch)));
           }

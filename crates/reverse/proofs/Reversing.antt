@@ -1,8 +1,8 @@
 -- The reverse of an accepted patch: its records are the two parts of the patch, changed over, and their image is as long as the
 -- patch, so it is written wherever the room holds that.
 use Prim.Native.Nat.{ℕ, _*_, _-_, _%_, _≤_}
-use mathlib.Core.List.{List, []}
-use mathlib.Core.Bool.{true, not}
+use mathlib.Core.List.{List, [], _++_}
+use mathlib.Core.Bool.{Bool, true, not}
 use mathlib.Core.Path.{_≡_, ap, sym, _∙_}
 use native.Mathlib.Omega.{arith}
 use borrow.Author.Tests.{eq-eqb, le-leb}
@@ -13,7 +13,7 @@ use Rattle.rules.specs.declared.Form.the-variants.{Patch}
 use Rattle.rules.specs.Numbers.{Bytes, lowest}
 use Rattle.rules.specs.Blocks.{records, recordCount, blocksFor, joined}
 use Rattle.rules.specs.Records.{wayOf}
-use Rattle.rules.specs.Patches.{withWay, reversed}
+use Rattle.rules.specs.Patches.{reversed}
 use Rattle.rules.specs.Refusals.{accepted, patchVerdict}
 use Rattle.rules.specs.Calls.{over, reverseOf}
 use Rattle.rules.proofs.Numbers.{lowest-le}
@@ -26,14 +26,18 @@ use Rattle.image.specs.Write.{writable, writtenLength, writtenRoom}
 use Rattle.patch.proofs.Accepted.{as-many, puts-from, takes-below}
 use Rattle.patch.proofs.Writing.{count-joined, cut-joined}
 use Rattle.reverse.specs.Turned.{Behind}
-use Rattle.reverse.proofs.Growing.{behind-both, part}
+use Rattle.reverse.proofs.Growing.{part}
 
--- the number of the first record that a patch puts in, or the number of its records
+-- record k of a patch is put in
+abbrev putsIn : List ℕ → ℕ → Bool
+putsIn patch k = not (eqb (wayOf (getD (records patch) k [])) 0)
+
+-- the number of the first record that is, or the number of records
 abbrev pub firstPutIn : List ℕ → ℕ
-firstPutIn patch = lowest (λ k. not (eqb (wayOf (getD (records patch) k [])) 0)) (recordCount patch)
+firstPutIn patch = lowest (putsIn patch) (recordCount patch)
 
 pub first-inside : (patch : List ℕ) → firstPutIn patch ≤ recordCount patch
-first-inside patch = lowest-le (λ k. not (eqb (wayOf (getD (records patch) k [])) 0)) (recordCount patch)
+first-inside patch = lowest-le (putsIn patch) (recordCount patch)
 
 -- an accepted patch
 module _ (patch : List ℕ) (right : accepted (patchVerdict patch) ≡ true) where
@@ -49,23 +53,19 @@ module _ (patch : List ℕ) (right : accepted (patchVerdict patch) ≡ true) whe
       let f = frame-of Patch patch (frame-accepted Patch patch right) in
       omega (arith, records-fit Patch patch f, f .not-too-many)
 
-  -- what it puts in, written to be taken out, and behind it what it takes out, written to be put in, are its reverse
-  pub reverse-written : Bytes patch → (first count : ℕ) → first ≡ firstPutIn patch → count ≡ recordCount patch
-      → (between written : ℕ) (flat middle later : List ℕ)
-      → Behind (part (records patch) 0 first count) 0 between flat middle
-      → Behind (part (records patch) 1 0 first) between written middle later
-      → Behind (reversed (records patch)) 0 written flat later
-  reverse-written bytes first count start end between written flat middle later taken put =
+  -- what it puts in, to be taken out, and behind it what it takes out, to be put in, are its reverse
+  pub reverse-parts : Bytes patch → (first count : ℕ) → first ≡ firstPutIn patch → count ≡ recordCount patch
+      → part (records patch) 0 first count ++ part (records patch) 1 0 first ≡ reversed (records patch)
+  reverse-parts bytes first count start end =
       let ps = records patch in
       let many : count ≡ length ps = end ∙ sym (as-many patch) in
-      let found = start ∙ ap (lowest (λ k. not (eqb (wayOf (getD ps k [])) 0))) (sym (as-many patch)) in
+      let found = start ∙ ap (lowest (putsIn patch)) (sym (as-many patch)) in
       let inside : first ≤ length ps = omega (arith, first-inside patch) in
       let rest : take (count - first) (drop first ps) ≡ drop first ps = take-all (count - first) (drop first ps) (rw length-drop (omega arith)) in
       let front : first - 0 ≡ first = omega arith in
-      rw (reversed-at ps first inside (takes-below patch right first found) (puts-from patch right bytes first found))
-      (behind-both (withWay 0 (drop first ps)) (withWay 1 (take first ps)) 0 between written flat middle later (rw rest at taken) (rw front at put))
+      rw (rest, front) (sym (reversed-at ps first inside (takes-below patch right first found) (puts-from patch right bytes first found)))
 
-  -- and they lie inside a list that has room for 675 records
+  -- where they are written, they lie inside a list that has room for 675 records
   pub reverse-inside : (written : ℕ) (flat later : List ℕ) → 21600 ≤ length flat → Behind (reversed (records patch)) 0 written flat later
       → written ≤ length later
   reverse-inside written flat later room behind = omega (arith, behind .size, behind .same-length, reverse-count patch right, patch-few)

@@ -5,7 +5,8 @@ use lib.ListN.{length-take, length-drop}
 use Rattle.rules.proofs.Patch.Ways.{length-withWay}
 use Rattle.table.proofs.Counts.{patch-held}
 use Rattle.patch.proofs.Accepted.{as-many}
-use Rattle.reverse.proofs.Reversing.{first-inside, patch-few, reverse-written}
+use Rattle.reverse.proofs.Growing.{behind-both}
+use Rattle.reverse.proofs.Reversing.{first-inside, patch-few, reverse-parts}
 use Rattle.reverse.proofs.turned.write_reversed.Statement.{statement}
 use Rattle.reverse.proofs.turned.write_reversed.Tie as tie
 
@@ -37,14 +38,8 @@ returns c =
     let first = second .before .before .before .before in
     let found = first .before .before in
     let known = found .before .before .before in
-    reverse-written _ (known .before .pre .0) (λ k. known .shared-slice-known .given k .fits)
-    (found .first-put-in .result)
-    (found .before .record-count .result)
-    (found .first-put-in .ensures)
-    (found .before .record-count .ensures)
-    _ _ _ _ _
-    (first .write-part .ensures)
-    (second .write-part2 .ensures)
+    behind-both _ _ _ _ _ _ _ _ _ (first .write-part .ensures) (second .write-part2 .ensures)
+    (reverse-parts (known .before .args .patch .now) (known .before .pre .0) (λ k. known .shared-slice-known .given k .fits) _ _ (found .first-put-in .ensures) (found .before .record-count .ensures))
 
 pub write-reversed-spec : {M : Type 1} → statement M
 write-reversed-spec =
