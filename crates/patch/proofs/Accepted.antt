@@ -1,8 +1,8 @@
 -- What an accepted patch gives: its records in order, all that are taken out before all that are put in, and not too many of these.
 use Prim.Native.Nat.{ℕ, zero, suc, _+_, _≤_, _<_}
 use mathlib.Core.List.{List, []}
-use mathlib.Core.Bool.{Bool, true, false, cond, _&&_, not}
-use mathlib.Core.Path.{_≡_, sym, _∙_}
+use mathlib.Core.Bool.{true, false, cond, _&&_, not}
+use mathlib.Core.Path.{_≡_, ap, sym, _∙_}
 use native.Mathlib.Omega.{arith}
 use borrow.Author.Tests.{eqb-true, eqb-false, eq-eqb, ltb-true, ltb-false, not-true, not-false}
 use lib.ListN.{length, getD}
@@ -20,11 +20,16 @@ use Rattle.rules.proofs.Table.Order.{Rises}
 use Rattle.rules.proofs.Table.Shape.{transactions-counted, tasks-counted, pairs-counted, not-too-many, faultless-order, records-bytes}
 use Rattle.rules.proofs.Patch.Valid.{valid-of}
 use Rattle.rules.proofs.Patch.WellFormed.{well-formed-of, well-formed-rises, well-formed-ways, well-formed-parts}
+use Rattle.patch.specs.Parts.{isPutIn}
 use Rattle.patch.specs.Merge.{PutsFrom}
 
 -- the list has as many records as the image
 pub as-many : (image : List ℕ) → length (records image) ≡ recordCount image
 as-many image = length-upTo (recordAt image) (recordCount image)
+
+-- the first record that is put in is the same among the list's
+pub first-in : (patch : List ℕ) (m : ℕ) → m ≡ lowest (isPutIn (records patch)) (recordCount patch) → m ≡ lowest (isPutIn (records patch)) (length (records patch))
+first-in patch m e = e ∙ ap (lowest (isPutIn (records patch))) (sym (as-many patch))
 
 -- a record that is read from the image is the list's
 pub read-is : (image : List ℕ) (k : ℕ) (fields : List ℕ) → k < recordCount image → fields ≡ recordAt image k → fields ≡ getD (records image) k []
@@ -62,13 +67,12 @@ module _ (patch : List ℕ) (right : accepted (patchVerdict patch) ≡ true) whe
   ways-rise bytes = well-formed-parts (records patch) (well-formed-of patch right) (records-bytes patch bytes)
 
   -- so from the first record that is put in, all are
-  pub puts-from : Bytes patch → (m : ℕ) → m ≡ lowest (λ k. not (eqb (wayOf (getD (records patch) k [])) 0)) (length (records patch))
+  pub puts-from : Bytes patch → (m : ℕ) → m ≡ lowest (isPutIn (records patch)) (length (records patch))
       → PutsFrom (records patch) m
   puts-from bytes m e k h l =
       let ps = records patch in
-      let taken : ℕ → Bool = λ j. not (eqb (wayOf (getD ps j [])) 0) in
-      let here = lowest-passes taken (length ps) (omega arith) in
-      let other : not (eqb (wayOf (getD ps m [])) 0) ≡ true = rw e here in
+      let here = lowest-passes (isPutIn ps) (length ps) (omega arith) in
+      let other : isPutIn ps m ≡ true = rw e here in
       let some = eqb-false (wayOf (getD ps m [])) 0 (not-true (eqb (wayOf (getD ps m [])) 0) other) in
       either (ltb m k)
       (λ t. omega (arith, ways-rise bytes m k (ltb-true m k t) l, patch-ways k l))
@@ -77,12 +81,12 @@ module _ (patch : List ℕ) (right : accepted (patchVerdict patch) ≡ true) whe
       rw same (omega (arith, patch-ways m (omega arith))))
 
   -- and before it, none is
-  pub takes-below : (m : ℕ) → m ≡ lowest (λ k. not (eqb (wayOf (getD (records patch) k [])) 0)) (length (records patch))
+  pub takes-below : (m : ℕ) → m ≡ lowest (isPutIn (records patch)) (length (records patch))
       → (k : ℕ) → k < m → wayOf (getD (records patch) k []) ≡ 0
   takes-below m e k h =
       eqb-true (wayOf (getD (records patch) k [])) 0
       (not-false (eqb (wayOf (getD (records patch) k [])) 0)
-      (lowest-below (λ j. not (eqb (wayOf (getD (records patch) j [])) 0)) (length (records patch)) k (omega arith)))
+      (lowest-below (isPutIn (records patch)) (length (records patch)) k (omega arith)))
 
 -- records of kind k that are put in, of the first n
 abbrev putOf : List (List ℕ) → ℕ → ℕ → ℕ

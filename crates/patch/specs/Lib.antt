@@ -1,3 +1,4 @@
+pub mod Parts
 pub mod Merge
 pub mod Written
 pub mod Touched

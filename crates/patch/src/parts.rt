@@ -1,14 +1,12 @@
 // The two parts of a patch, and its records written one after another into a list of bytes.
 ghost use mathlib.Core.Path.{_≡_};
-ghost use mathlib.Core.Bool.{not};
-ghost use mathlib.Core.List.{[], _++_};
+ghost use mathlib.Core.List.{_++_};
 ghost use Prim.Native.Nat.{_+_, _≤_};
-ghost use lib.Dec.{eqb};
-ghost use lib.ListN.{length, getD, take, drop, set};
+ghost use lib.ListN.{length, take, drop, set};
 ghost use Rattle.rules.specs.Numbers.{lowest};
 ghost use Rattle.rules.specs.Blocks.{records, recordCount};
-ghost use Rattle.rules.specs.Records.{wayOf};
 ghost use Rattle.image.specs.Held.{HoldsRecords};
+ghost use Rattle.patch.specs.Parts.{isPutIn};
 use image::bytes::byte_at;
 use image::records::record_at;
 use image::records::record_count;
@@ -17,7 +15,7 @@ use image::write::copy_bytes;
 // The number of the first record that a patch puts in, or the number of its records.
 pub fn first_put_in(patch: &[u8]) -> usize
     requires { ⌜ HoldsRecords (now patch) ⌝ }
-    ensures { λ r. ⌜ r ≡ lowest (λ k. not (eqb (wayOf (getD (records (now (patch .entry))) k [])) 0)) (recordCount (now (patch .entry))) ⌝ }
+    ensures { λ r. ⌜ r ≡ lowest (isPutIn (records (now (patch .entry)))) (recordCount (now (patch .entry))) ⌝ }
 {
     let count = record_count(patch);
     let mut k: usize = 0;

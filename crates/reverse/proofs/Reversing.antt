@@ -1,18 +1,16 @@
 -- The reverse of an accepted patch: its records are the two parts of the patch, changed over, and their image is as long as the
 -- patch, so it is written wherever the room holds that.
 use Prim.Native.Nat.{ℕ, _*_, _-_, _%_, _≤_}
-use mathlib.Core.List.{List, [], _++_}
-use mathlib.Core.Bool.{Bool, true, not}
-use mathlib.Core.Path.{_≡_, ap, sym, _∙_}
+use mathlib.Core.List.{List, _++_}
+use mathlib.Core.Bool.{true}
+use mathlib.Core.Path.{_≡_, sym, _∙_}
 use native.Mathlib.Omega.{arith}
 use borrow.Author.Tests.{eq-eqb, le-leb}
-use lib.ListN.{length, getD, take, drop, length-drop}
+use lib.ListN.{length, take, drop, length-drop}
 use lib.Seq.{take-all}
-use lib.Dec.{eqb}
 use Rattle.rules.specs.declared.Form.the-variants.{Patch}
 use Rattle.rules.specs.Numbers.{Bytes, lowest}
 use Rattle.rules.specs.Blocks.{records, recordCount, blocksFor, joined}
-use Rattle.rules.specs.Records.{wayOf}
 use Rattle.rules.specs.Patches.{reversed}
 use Rattle.rules.specs.Refusals.{accepted, patchVerdict}
 use Rattle.rules.specs.Calls.{over, reverseOf}
@@ -23,21 +21,18 @@ use Rattle.rules.proofs.Image.Written.{length-imageOf}
 use Rattle.rules.proofs.Patch.WellFormed.{well-formed-of}
 use Rattle.rules.proofs.Patch.Reversed.{reversed-at, reversed-sized, reverse-count, reverse-length}
 use Rattle.image.specs.Write.{writable, writtenLength, writtenRoom}
-use Rattle.patch.proofs.Accepted.{as-many, puts-from, takes-below}
+use Rattle.patch.specs.Parts.{isPutIn}
+use Rattle.patch.proofs.Accepted.{as-many, first-in, puts-from, takes-below}
 use Rattle.patch.proofs.Writing.{count-joined, cut-joined}
 use Rattle.reverse.specs.Turned.{Behind}
 use Rattle.reverse.proofs.Growing.{part}
 
--- record k of a patch is put in
-abbrev putsIn : List ℕ → ℕ → Bool
-putsIn patch k = not (eqb (wayOf (getD (records patch) k [])) 0)
-
--- the number of the first record that is, or the number of records
+-- the number of the first record that a patch puts in, or the number of its records
 abbrev pub firstPutIn : List ℕ → ℕ
-firstPutIn patch = lowest (putsIn patch) (recordCount patch)
+firstPutIn patch = lowest (isPutIn (records patch)) (recordCount patch)
 
 pub first-inside : (patch : List ℕ) → firstPutIn patch ≤ recordCount patch
-first-inside patch = lowest-le (putsIn patch) (recordCount patch)
+first-inside patch = lowest-le (isPutIn (records patch)) (recordCount patch)
 
 -- an accepted patch
 module _ (patch : List ℕ) (right : accepted (patchVerdict patch) ≡ true) where
@@ -59,7 +54,7 @@ module _ (patch : List ℕ) (right : accepted (patchVerdict patch) ≡ true) whe
   reverse-parts bytes first count start end =
       let ps = records patch in
       let many : count ≡ length ps = end ∙ sym (as-many patch) in
-      let found = start ∙ ap (lowest (putsIn patch)) (sym (as-many patch)) in
+      let found = first-in patch first start in
       let inside : first ≤ length ps = omega (arith, first-inside patch) in
       let rest : take (count - first) (drop first ps) ≡ drop first ps = take-all (count - first) (drop first ps) (rw length-drop (omega arith)) in
       let front : first - 0 ≡ first = omega arith in
