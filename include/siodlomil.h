@@ -2,14 +2,24 @@
  * Siodlomil from C: who may preempt whom in a task table and why, how much stack the tasks need at most, patches to a table,
  * and taking a patch off again.
  *
- * Link with libsiodlomil.a, which `rt staticlib siodlomil` writes to target/staticlib/. It is for x86-64 Linux and uses
+ * For x86-64 and 64-bit Arm, in C99 and C++. Link with libsiodlomil.a, which `tools/archive` writes for either; it uses
  * memcpy and memset of the C library, and nothing else. Every function in it is proved to meet its promise for every
  * input; the promises stand above each function in crates/siodlomil/src/lib.rt, and below in words.
  *
  * What holds for every call:
  *
- * - All memory is the caller's. A call keeps no pointer, allocates nothing and has no state of its own, so calls may run
- *   at the same time, each on its own buffers. tools/stack-use prints how much stack a call takes.
+ * - All memory is the caller's. A call keeps no pointer, allocates nothing, makes no system call and has no state of its
+ *   own, so calls may run at the same time, each on its own buffers.
+ * - A call takes stack, at most so many bytes of it, as tools/stack-use reads off the two archives:
+ *
+ *                           x86-64       Arm
+ *     siodlomil_map            6,104     6,144
+ *     siodlomil_bounds        49,544    46,400
+ *     siodlomil_reason         1,136       944
+ *     siodlomil_patch         42,328    42,416
+ *     siodlomil_reverse       21,792    21,776
+ *     siodlomil_offending      1,184     1,024
+ *
  * - Each pointer is followed by its length, counted in elements. It points to that many elements, aligned for their type,
  *   and is not NULL even where the length is 0.
  * - A buffer that is written overlaps no other buffer of the same call. Buffers that are only read may overlap each other.
@@ -64,9 +74,16 @@
 #include <stddef.h>
 #include <stdint.h>
 
+#if !defined(__LP64__) || !(defined(__x86_64__) || defined(__aarch64__))
+#error "siodlomil.h is for x86-64 and 64-bit Arm, with pointers of 64 bits"
+#endif
+
 #ifdef __cplusplus
 extern "C" {
 #endif
+
+/* The version of the library; CHANGELOG.md says what each changed. */
+#define SIODLOMIL_VERSION "0.7.0"
 
 /* A block of an image, and a record in it. */
 #define SIODLOMIL_BLOCK_BYTES 512
@@ -141,6 +158,19 @@ typedef struct siodlomil_offending_answer {
 } siodlomil_offending_answer;
 
 /*
+ * The archive writes an answer of more than 16 bytes through a pointer, its first argument. On x86-64 that is how C returns
+ * such an answer. On Arm C hands the pointer over in another register, so there a program calls an inline function, at the
+ * end of this header, which calls the archive's. Programs look the same on both.
+ */
+#ifdef __x86_64__
+#define SIODLOMIL_LONG_ANSWER
+#define SIODLOMIL_LINKED_AS(name)
+#else
+#define SIODLOMIL_LONG_ANSWER static inline
+#define SIODLOMIL_LINKED_AS(name) __asm__(name)
+#endif
+
+/*
  * Fills a map from a table image: refusals 1 to 8, then 11.
  *
  * image  read: the table image.
@@ -165,8 +195,9 @@ siodlomil_map_answer siodlomil_map(const uint8_t *image, size_t image_bytes, uin
  * Levels go by priorities, whatever the thresholds are. Always chain <= path <= levels, and chain <= transactions; none is
  * above 4,194,240, which is 64 tasks of 65,535 bytes. A table without tasks has 0 for each, and no ids.
  */
-siodlomil_bounds_answer siodlomil_bounds(const uint8_t *image, size_t image_bytes, const uint64_t *map, size_t map_rows,
-                                         uint16_t *ids, size_t ids_entries);
+SIODLOMIL_LONG_ANSWER siodlomil_bounds_answer
+siodlomil_bounds(const uint8_t *image, size_t image_bytes, const uint64_t *map, size_t map_rows, uint16_t *ids,
+                 size_t ids_entries) SIODLOMIL_LINKED_AS("siodlomil_bounds_by_value");
 
 /*
  * Why the task low may be preempted by the task high, or why not: refusals 1 to 8, then 15.
@@ -225,6 +256,24 @@ siodlomil_reverse_answer siodlomil_reverse(const uint8_t *patch, size_t patch_by
  */
 siodlomil_offending_answer siodlomil_offending(const uint8_t *base, size_t base_bytes, const uint8_t *patch,
                                                size_t patch_bytes);
+
+#ifndef __x86_64__
+/* The archive's function, and the one that a program calls. */
+void siodlomil_bounds_into(siodlomil_bounds_answer *answer, const uint8_t *image, size_t image_bytes,
+                           const uint64_t *map, size_t map_rows, uint16_t *ids, size_t ids_entries)
+    SIODLOMIL_LINKED_AS("siodlomil_bounds");
+
+static inline siodlomil_bounds_answer siodlomil_bounds(const uint8_t *image, size_t image_bytes, const uint64_t *map,
+                                                       size_t map_rows, uint16_t *ids, size_t ids_entries)
+{
+    siodlomil_bounds_answer answer;
+    siodlomil_bounds_into(&answer, image, image_bytes, map, map_rows, ids, ids_entries);
+    return answer;
+}
+#endif
+
+#undef SIODLOMIL_LONG_ANSWER
+#undef SIODLOMIL_LINKED_AS
 
 #ifdef __cplusplus
 }
