@@ -27,42 +27,49 @@
  * - An accepted call answers number 0 and place 0. A refused one answers the number and place of its refusal, all else is
  *   0, and nothing is written: every lent buffer is as it was.
  *
- * Records are 32 bytes each, and their numbers are little-endian. Byte 0 is the kind; byte 31 is 0 in a table, and in a
- * patch 0 where the record is taken out and 1 where it is put in. Bytes that are not named here are 0.
+ * Records are 32 bytes each, and their numbers are little-endian. Bytes that are not named here are 0.
  *
- *   bytes   transaction, kind 1           task, kind 2                                   pair, kind 3
- *    1                                                                                   0 one-way, 1 precedence
- *    2-3    number, 1 to 65,535           id, 1 to 65,535                                first task
- *    4-5                                  transaction                                    second task
- *    6-7                                  priority, 1 to 255, larger is more urgent
- *    8-11   period, 1 to 1,000,000,000    offset, 0 to 999,999,999, below the period
- *   12-15                                 jitter, 0 to 1,000,000,000, or 4,294,967,295
- *   16-19                                 response, from the offset to 2,000,000,000
- *   20-21                                 stack, 1 to 65,535
- *   22                                    threshold, from the priority to 255, or 0
+ *   kind         bytes  field         values                                  unit
+ *   every        0      kind          1 transaction, 2 task, 3 pair           -
+ *   every        31     way           0; in a patch 0 or 1                    -
+ *   transaction  2-3    number        1 to 65,535                             -
+ *   transaction  8-11   period T      1 to 1,000,000,000                      time
+ *   task         2-3    id            1 to 65,535                             -
+ *   task         4-5    transaction   1 to 65,535                             -
+ *   task         6-7    priority P    1 to 255                                -
+ *   task         8-11   offset O      0 to 999,999,999, below T               time
+ *   task         12-15  jitter J      0 to 1,000,000,000, or 4,294,967,295    time
+ *   task         16-19  response R    O to 2,000,000,000                      time
+ *   task         20-21  stack S       1 to 65,535                             bytes
+ *   task         22     threshold     0, or P to 255                          -
+ *   pair         1      sort          0 one-way, 1 precedence                 -
+ *   pair         2-3    first task    1 to 65,535                             -
+ *   pair         4-5    second task   1 to 65,535, not the first              -
  *
+ * A time is a number of the table's own unit, whatever unit that is, the same throughout one table; stack and bounds are
+ * bytes. The response is counted from the activation of the transaction, and not from the offset.
  * A jitter of 4,294,967,295 is missing, not measured, and is read as the period of the task's transaction. A threshold of 0
- * is read as the task's priority. Once started, a task is preempted only by tasks of a priority above its threshold.
+ * is read as the task's priority. A larger priority is more urgent; once started, a task is preempted only by tasks of a
+ * priority above its threshold. The way of a patch's record is 0 where it is taken out and 1 where it is put in.
  *
  * Refusals. Checks run in the order that each function names; each runs over the whole image before the next, and the
  * lowest place wins. Blocks and records are counted from 0 through the image.
  *
- *   number  given when                                                              place
- *    1      length 0, not a multiple of 512, or above 11,776 bytes                  0
- *    2      a block's check is wrong                                                block
- *    3      header, record count or zero fill of a block is wrong                   block
- *    4      unknown kind, or a byte that has to be 0 is not                         record
- *    5      not after the record before it, in the image's order                    record
- *    6      a field out of range, a pair's byte 1 above 1, or a task paired with
- *           itself                                                                  record
- *    7      too many of a kind: 16 transactions, 64 tasks, 256 pairs                kind
- *    8      transaction or task not listed, or offset not below the period          record
- *    9      a record to take out is not in the base, byte for byte                  patch record
- *   10      the outcome of a patch breaks order, 7 or 8                             0
- *   11      a lent map or room is too short                                         0
- *   15      an id that is asked for is not listed                                   0
- *   21-27   1 to 7 for a patch: 23,040 bytes at most (21); byte 31 of a record
- *           neither 0 nor 1 (24); too many taken out, or too many put in (27)       as for 1 to 7
+ *   number  place          given when
+ *   1       0              length 0, not a multiple of 512, or above 11,776 bytes
+ *   2       block          a block's check is wrong
+ *   3       block          header, record count or zero fill of a block is wrong
+ *   4       record         unknown kind, or a byte that has to be 0 is not
+ *   5       record         not after the record before it, in the image's order
+ *   6       record         a field out of range, a pair's byte 1 above 1, or a task paired with itself
+ *   7       kind           too many of a kind: 16 transactions, 64 tasks, 256 pairs
+ *   8       record         transaction or task not listed, or offset not below the period
+ *   9       patch record   a record to take out is not in the base, byte for byte
+ *   10      0              the outcome of a patch breaks order, 7 or 8
+ *   11      0              a lent map or room is too short
+ *   15      0              an id that is asked for is not listed
+ *   21-27   as for 1-7     1 to 7 for a patch: 23,040 bytes at most (21); byte 31 of a record neither 0 nor 1 (24); too many
+ *                          taken out, or too many put in (27)
  *
  * An accepted image with one byte changed, or with two unequal neighbours among the first 510 bytes of a block changed
  * over, is refusal 2 at that block, and 22 for a patch, on an accepted base or to be reversed. Two changes in one block can
@@ -122,7 +129,7 @@ typedef struct siodlomil_bounds_answer {
     uint32_t number;
     uint32_t place;
     uint32_t tasks;        /* how many tasks the table has */
-    uint32_t chain;        /* the chain bound: the reserve that the shared stack needs */
+    uint32_t chain;        /* the chain bound: the reserve that the shared stack needs, in bytes */
     uint32_t path;         /* the path bound */
     uint32_t transactions; /* the transactions bound */
     uint32_t levels;       /* the levels bound */
@@ -191,6 +198,9 @@ siodlomil_map_answer siodlomil_map(const uint8_t *image, size_t image_bytes, uin
  *        threshold is below the second one's priority.
  * ids    written: at least 64 entries. The heaviest chain by its tasks' ids, lowest priority first; of chains that weigh
  *        the same the first, compared id by id. Entries beyond the answered length keep their values.
+ *
+ * Lend the map that siodlomil_map filled in for this image, or that siodlomil_patch wrote with it from such a map. The map is
+ * not checked: with other contents the bounds are those of that map, with number 0, and the reserve may be too small.
  *
  * Levels go by priorities, whatever the thresholds are. Always chain <= path <= levels, and chain <= transactions; none is
  * above 4,194,240, which is 64 tasks of 65,535 bytes. A table without tasks has 0 for each, and no ids.
