@@ -1,0 +1,49 @@
+-- The bound is reached: a run of the paper's figure 2 that keeps to its table and has tasks 11, 12 and 23 nested.
+use Prim.Native.Nat.{ℕ}
+use mathlib.Core.List.{List, [], _∷_}
+use mathlib.Core.Path.{_≡_, refl, ap, sym, _∙_}
+use native.Mathlib.Omega.{arith}
+use Rattle.rules.specs.Numbers.{lowest}
+use Rattle.rules.specs.Records.{ofKind}
+use Rattle.rules.specs.Preempt.{barred, mapOf}
+use Rattle.rules.specs.Chains.{Figures, FiguresOf, chainBound}
+use Rattle.rules.specs.Execution.{Instance, KeepsTo, onStack}
+use Rattle.rules.proofs.FourBounds.Unique.{figures-unique}
+use Rattle.rules.proofs.Cases.{figure2, starred}
+
+-- both transactions are activated at 0; each task is released at its offset, starts at once, and takes all of its response
+abbrev pub figure2Run : List Instance
+figure2Run =
+    record { place = 0; activated = 0; released = 0; started = 0; finished = 3854 }
+    ∷ record { place = 1; activated = 0; released = 1697; started = 1697; finished = 3837 }
+    ∷ record { place = 5; activated = 0; released = 2588; started = 2588; finished = 3699 }
+    ∷ []
+
+-- it keeps to the table
+pub figure2-keeps : KeepsTo 1 figure2 figure2Run
+unfolding lowest ofKind barred
+figure2-keeps =
+    record {
+      in-time = omega arith;
+      periodic = omega arith;
+      one-by-one = omega arith;
+      preempts = (
+        (λ h. absurd (omega arith), (λ h. record { yielding = refl; allowed = refl; unblocked = omega arith; inside = omega arith }, (λ h. record { yielding = refl; allowed = refl; unblocked = omega arith; inside = omega arith }, tt))),
+        (
+          (λ h. absurd (omega arith), (λ h. absurd (omega arith), (λ h. record { yielding = refl; allowed = refl; unblocked = omega arith; inside = omega arith }, tt))),
+          ((λ h. absurd (omega arith), (λ h. absurd (omega arith), (λ h. absurd (omega arith), tt))), tt),
+        ),
+      );
+    }
+
+-- and at 2,588 it has 8 bytes on the stack
+pub figure2-reaches : onStack figure2 2588 figure2Run ≡ 8
+unfolding ofKind
+figure2-reaches = refl
+
+-- which is the chain bound
+pub figure2-exactly : (f : Figures) → FiguresOf figure2 (mapOf figure2) f → onStack figure2 2588 figure2Run ≡ chainBound figure2 f
+figure2-exactly f right =
+    let shows = starred .1 .1 .1 .1 .1 .1 .1 .1 .1 .1 .0 .1 in
+    figure2-reaches
+    ∙ sym (ap (chainBound figure2) (figures-unique figure2 (mapOf figure2) f (shows .found) right (shows .right)) ∙ shows .weight)
