@@ -5,17 +5,20 @@ use mathlib.Core.List.{List}
 use mathlib.Core.Bool.{true}
 use mathlib.Core.Path.{_≡_, sym, _∙_}
 use native.Mathlib.Omega.{arith}
+use lib.Dec.{T}
 use Rattle.rules.specs.declared.Bounds.{Bounds}
 use Rattle.rules.specs.Numbers.{Bytes}
 use Rattle.rules.specs.Blocks.{records}
 use Rattle.rules.specs.Records.{taskCount}
 use Rattle.rules.specs.Preempt.{decided, cell, mapOf}
-use Rattle.rules.specs.Chains.{Figures, FiguresOf, chainBound}
-use Rattle.rules.specs.Execution.{Instance, Each, InTime, StartsWithin, KeepsTo, onStack, Enough}
+use Rattle.rules.specs.Chains.{related, Figures, FiguresOf, chainBound}
+use Rattle.rules.specs.Execution.{Instance, _∈_, StartsWithin, KeepsTo, onStack, Enough}
 use Rattle.rules.specs.Refusals.{accepted, tableVerdict}
 use Rattle.rules.specs.Calls.{over, mapVerdict, mapAfter, boundsFound, BoundCall}
 use Rattle.rules.specs.Runs.{Step}
 use Rattle.rules.proofs.Maps.{cell-of-map}
+use Rattle.rules.proofs.Related.{relation-related}
+use Rattle.rules.proofs.Reasons.{decided-yields}
 use Rattle.rules.proofs.Refusals.{accepted-parts}
 use Rattle.rules.proofs.Table.Listed.{listed-of}
 use Rattle.rules.proofs.Patch.Valid.{valid-of, valid-few-tasks}
@@ -24,9 +27,8 @@ use Rattle.rules.proofs.Patch.Run.{over-again, leftAfter, run-left, afr
 use Rattle.rules.proofs.FourBounds.{Ordered, figures-ordered}
 use Rattle.rules.proofs.FourBounds.Accepted.{accepted-listed, accepted-climbing}
 use Rattle.rules.proofs.FourBounds.Shown.{shown-accepted, worked}
-use Rattle.rules.proofs.Enough.Instances.{each-then}
 use Rattle.rules.proofs.Enough.Pairwise.{lemma-2}
-use Rattle.rules.proofs.Enough.Nesting.{stacked, places, stacked-each, stacked-weight, stacked-nested, lemma-3}
+use Rattle.rules.proofs.Enough.Nesting.{stacked, places, stacked-one, stacked-weight, stacked-nested, lemma-3}
 pub mod Instances
 pub mod Pairwise
 pub mod Nesting
@@ -54,14 +56,20 @@ enough-over image rows f table covers right q run keeps =
     ordered : Ordered (boundsFound rs f)
     ordered = figures-ordered rs rows f (accepted-climbing image table) (accepted-listed image table) right
 
+    may : (v w : Instance) → v ∈ run → w ∈ run → StartsWithin v w → T (related rs rows (v .place) (w .place))
+    may v w one other within =
+        let decision = lemma-2 q rs (listed-of rs (accepted-parts image table .1)) run keeps v w one other within in
+        relation-related rs rows (v .place) (w .place)
+        (record {
+          first = keeps .known v one;
+          second = keeps .known w other;
+          yielding = decided-yields rs (v .place) (w .place) decision;
+          set = covers (v .place) (w .place) (keeps .known v one) (keeps .known w other) decision;
+        })
+
     most : (m : ℕ) → onStack rs m run ≤ chainBound rs f
     most m =
-        let Known : Instance → Type 0 = λ v. v .place < taskCount rs in
-        let May : Instance → Instance → Type 0 = λ v w. StartsWithin v w → decided rs (v .place) (w .place) ≡ true in
-        let known = stacked-each Known m run (each-then (λ v (time : InTime q rs v). time .known) run (keeps .in-time)) in
-        let may = lemma-2 q rs (listed-of rs (accepted-parts image table .1)) run keeps in
-        let may′ = stacked-each (λ v. Each (May v) (stacked m run)) m run (each-then (λ v. stacked-each (May v) m run) run may) in
-        let chain = lemma-3 rs rows covers (stacked m run) known may′ (stacked-nested m run (keeps .one-by-one)) in
+        let chain = lemma-3 rs rows run (keeps .known) may (stacked m run) (stacked-one m run) (stacked-nested m run (keeps .one-by-one)) in
         omega (arith, stacked-weight rs m run, right .chain .most (places (stacked m run)) chain)
 
 -- Theorem 1: so are those of an accepted table over its own map

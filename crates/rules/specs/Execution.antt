@@ -3,6 +3,7 @@
 use Prim.Native.Nat.{ℕ, _+_, _*_, _≤_, _<_}
 use mathlib.Core.List.{List, [], _∷_}
 use mathlib.Core.Bool.{Bool, true, false, cond, _&&_}
+use mathlib.Core.Logic.{_⊎_}
 use mathlib.Core.Path.{_≡_}
 use lib.ListN.{getD}
 use lib.Dec.{leb, ltb}
@@ -21,48 +22,35 @@ pub record Instance : Type 0 where
   pub started : ℕ
   pub finished : ℕ
 
--- a run is a list of instances, in any order; each of them has the property
-abbrev pub Each : (Instance → Type 0) → List Instance → Type 0
-Each P [] = Unit {0}
-Each P (v ∷ run) = P v × Each P run
+-- a run is a list of instances, in any order: v is one of them
+infix 20 _∈_
+abbrev pub _∈_ : Instance → List Instance → Type 0
+v ∈ [] = ⊥
+v ∈ (w ∷ run) = (v ≡ w) ⊎ (v ∈ run)
 
--- the task of an instance
-abbrev pub taskIn : List (List ℕ) → Instance → Task
-taskIn rs v = taskAt rs (v .place)
-
--- what is asked of an instance
-pub record InTime (q : ℕ) (rs : List (List ℕ)) (v : Instance) : Type 0 where
-  -- it is one of a task of the table
-  pub known : v .place < taskCount rs
+-- what is asked of an instance v of task i; missing says that its jitter was not measured
+pub record InTime (q : ℕ) (missing : Bool) (i : Task) (v : Instance) : Type 0 where
   -- (5): it starts no earlier than O after its activation
-  pub from-offset : v .activated + q * taskIn rs v .offset ≤ v .started
-  -- (6): where J is measured it is released by O + J after its activation, and where J is missing nothing is asked
-  pub within-jitter :
-      unmeasured (le4 (getD (tasks rs) (v .place) []) 12) ≡ false
-      → v .released ≤ v .activated + q * (taskIn rs v .offset + taskIn rs v .jitter)
+  pub from-offset : v .activated + q * i .offset ≤ v .started
+  -- (6): it is released by O + J after its activation, and where J is missing at any time
+  pub within-jitter : missing ≡ false → v .released ≤ v .activated + q * (i .offset + i .jitter)
   -- it starts no earlier than it is released
   pub from-release : v .released ≤ v .started
-  -- it has finished by R after its activation, which R counts from, and not from the offset
-  pub within-response : v .finished ≤ v .activated + q * taskIn rs v .response
+  -- it has finished by R after its activation: R counts from there, and not from O
+  pub within-response : v .finished ≤ v .activated + q * i .response
 
--- what is asked of two instances of one transaction: the later of two activations is at least T after the earlier
-abbrev pub Periodic : ℕ → List (List ℕ) → Instance → Instance → Type 0
-Periodic q rs v w =
-    taskIn rs v .transaction ≡ taskIn rs w .transaction → v .activated < w .activated
-    → v .activated + q * periodAt rs (v .place) ≤ w .activated
-
--- w starts while v has started and not finished, as in (2)
+-- w starts while v has started and not finished
 pub record StartsWithin (v w : Instance) : Type 0 where
-  pub later : v .started < w .started
-  pub running : w .started < v .finished
+  pub after : v .started < w .started
+  pub before : w .started < v .finished
 
--- what is asked where w starts so
-pub record Preempts (rs : List (List ℕ)) (v w : Instance) : Type 0 where
-  -- the threshold of v is below the priority of w
-  pub yielding : yields (taskIn rs v) (taskIn rs w) ≡ true
+-- what is then asked of v, an instance of task i, and w, one of task j; barred says that a pair forbids it
+pub record Preempts (barred : Bool) (i j : Task) (v w : Instance) : Type 0 where
+  -- the threshold of i is below the priority of j
+  pub yielding : yields i j ≡ true
   -- no pair forbids it
-  pub allowed : barred rs (taskIn rs v .id) (taskIn rs w .id) ≡ false
-  -- v started before w was released: under an early-blocking protocol it does not start while w waits
+  pub allowed : barred ≡ false
+  -- v started before w was released: under an early-blocking protocol it could not start while w waits
   pub unblocked : v .started < w .released
   -- w finishes no later than v
   pub inside : w .finished ≤ v .finished
@@ -70,14 +58,31 @@ pub record Preempts (rs : List (List ℕ)) (v w : Instance) : Type 0 where
 -- no two instances start at the same moment
 abbrev pub OneByOne : List Instance → Type 0
 OneByOne [] = Unit {0}
-OneByOne (v ∷ run) = Each (λ w. v .started ≡ w .started → ⊥) run × OneByOne run
+OneByOne (v ∷ run) = ((w : Instance) → w ∈ run → v .started ≡ w .started → ⊥) × OneByOne run
+
+-- the task of an instance, and whether its jitter is missing
+abbrev pub taskIn : List (List ℕ) → Instance → Task
+taskIn rs v = taskAt rs (v .place)
+
+abbrev pub jitterMissing : List (List ℕ) → Instance → Bool
+jitterMissing rs v = unmeasured (le4 (getD (tasks rs) (v .place) []) 12)
 
 -- a run keeps to a table
 pub record KeepsTo (q : ℕ) (rs : List (List ℕ)) (run : List Instance) : Type 0 where
-  pub in-time : Each (InTime q rs) run
-  pub periodic : Each (λ v. Each (Periodic q rs v) run) run
+  -- each instance is one of a task of the table
+  pub known : (v : Instance) → v ∈ run → v .place < taskCount rs
+  -- and in time
+  pub in-time : (v : Instance) → v ∈ run → InTime q (jitterMissing rs v) (taskIn rs v) v
+  -- of two activations of one transaction the later is at least T after the earlier
+  pub periodic :
+      (v w : Instance) → v ∈ run → w ∈ run → taskIn rs v .transaction ≡ taskIn rs w .transaction
+      → v .activated < w .activated → v .activated + q * periodAt rs (v .place) ≤ w .activated
+  -- instances start one by one
   pub one-by-one : OneByOne run
-  pub preempts : Each (λ v. Each (λ w. StartsWithin v w → Preempts rs v w) run) run
+  -- and within each other only where that is a preemption
+  pub preempts :
+      (v w : Instance) → v ∈ run → w ∈ run → StartsWithin v w
+      → Preempts (barred rs (taskIn rs v .id) (taskIn rs w .id)) (taskIn rs v) (taskIn rs w) v w
 
 -- an instance has started and not finished at moment m
 abbrev pub active : ℕ → Instance → Bool

@@ -1,39 +1,50 @@
 -- The bound is reached: a run of the paper's figure 2 that keeps to its table and has tasks 11, 12 and 23 nested.
-use Prim.Native.Nat.{ℕ}
+use Prim.Native.Nat.{ℕ, _+_, _*_, _≤_, _<_}
 use mathlib.Core.List.{List, [], _∷_}
 use mathlib.Core.Path.{_≡_, refl, ap, sym, _∙_}
 use native.Mathlib.Omega.{arith}
 use Rattle.rules.specs.Numbers.{lowest}
-use Rattle.rules.specs.Records.{ofKind}
+use Rattle.rules.specs.Records.{ofKind, taskCount, periodAt}
 use Rattle.rules.specs.Preempt.{barred, mapOf}
 use Rattle.rules.specs.Chains.{Figures, FiguresOf, chainBound}
-use Rattle.rules.specs.Execution.{Instance, KeepsTo, onStack}
+use Rattle.rules.specs.Execution.{Instance, InTime, StartsWithin, Preempts, taskIn, jitterMissing, KeepsTo, onStack}
 use Rattle.rules.proofs.FourBounds.Unique.{figures-unique}
 use Rattle.rules.proofs.Cases.{figure2, starred}
+use Rattle.rules.proofs.Enough.Instances.{each-at, each-two}
 
 -- both transactions are activated at 0; each task is released at its offset, starts at once, and takes all of its response
+abbrev pub of11 : Instance
+of11 = record { place = 0; activated = 0; released = 0; started = 0; finished = 3854 }
+
+abbrev pub of12 : Instance
+of12 = record { place = 1; activated = 0; released = 1697; started = 1697; finished = 3837 }
+
+abbrev pub of23 : Instance
+of23 = record { place = 5; activated = 0; released = 2588; started = 2588; finished = 3699 }
+
 abbrev pub figure2Run : List Instance
-figure2Run =
-    record { place = 0; activated = 0; released = 0; started = 0; finished = 3854 }
-    ∷ record { place = 1; activated = 0; released = 1697; started = 1697; finished = 3837 }
-    ∷ record { place = 5; activated = 0; released = 2588; started = 2588; finished = 3699 }
-    ∷ []
+figure2Run = of11 ∷ of12 ∷ of23 ∷ []
 
 -- it keeps to the table
 pub figure2-keeps : KeepsTo 1 figure2 figure2Run
 unfolding lowest ofKind barred
 figure2-keeps =
     record {
-      in-time = omega arith;
-      periodic = omega arith;
-      one-by-one = omega arith;
-      preempts = (
-        (λ h. absurd (omega arith), (λ h. record { yielding = refl; allowed = refl; unblocked = omega arith; inside = omega arith }, (λ h. record { yielding = refl; allowed = refl; unblocked = omega arith; inside = omega arith }, tt))),
-        (
-          (λ h. absurd (omega arith), (λ h. absurd (omega arith), (λ h. record { yielding = refl; allowed = refl; unblocked = omega arith; inside = omega arith }, tt))),
-          ((λ h. absurd (omega arith), (λ h. absurd (omega arith), (λ h. absurd (omega arith), tt))), tt),
-        ),
+      known = each-at _ figure2Run (omega arith);
+      in-time = each-at _ figure2Run (omega arith);
+      periodic = each-two _ figure2Run (omega arith);
+      one-by-one = (
+        each-at _ (of12 ∷ of23 ∷ []) (omega arith),
+        (each-at _ (of23 ∷ []) (omega arith), (each-at _ [] tt, tt)),
       );
+      preempts =
+          each-two _ figure2Run (
+            (λ h. absurd (omega arith), (λ h. record { yielding = refl; allowed = refl; unblocked = omega arith; inside = omega arith }, (λ h. record { yielding = refl; allowed = refl; unblocked = omega arith; inside = omega arith }, tt))),
+            (
+              (λ h. absurd (omega arith), (λ h. absurd (omega arith), (λ h. record { yielding = refl; allowed = refl; unblocked = omega arith; inside = omega arith }, tt))),
+              ((λ h. absurd (omega arith), (λ h. absurd (omega arith), (λ h. absurd (omega arith), tt))), tt),
+            ),
+          );
     }
 
 -- and at 2,588 it has 8 bytes on the stack

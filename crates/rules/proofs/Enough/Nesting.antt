@@ -6,16 +6,13 @@ use mathlib.Core.Bool.{Bool, true, cond, _&&_}
 use mathlib.Core.Path.{_≡_, refl, sym, _∙_}
 use native.Mathlib.Omega.{arith}
 use borrow.Author.Tests.{ltb-true, ltb-false, leb-true}
-use lib.Dec.{leb, ltb}
+use lib.Dec.{T, leb, ltb}
 use Rattle.rules.specs.Records.{taskCount}
-use Rattle.rules.specs.Preempt.{decided, cell}
 use Rattle.rules.specs.Chains.{weight, Under, Chain, related, sizeAt}
-use Rattle.rules.specs.Execution.{Instance, Each, StartsWithin, OneByOne, active, onStack}
+use Rattle.rules.specs.Execution.{Instance, _∈_, StartsWithin, OneByOne, active, onStack}
 use Rattle.rules.proofs.Numbers.{either}
 use Rattle.rules.proofs.Tests.{both-first, both-second}
-use Rattle.rules.proofs.Related.{relation-related}
-use Rattle.rules.proofs.Reasons.{decided-yields}
-use Rattle.rules.proofs.Enough.Instances.{each-then, each-with}
+use Rattle.rules.proofs.Enough.Instances.{Each, each-then, each-with, each-one}
 
 -- an instance put before the first that starts later
 unfoldable pub inserted : Instance → List Instance → List Instance
@@ -44,13 +41,17 @@ inserted-each P v [] h k = (h, tt)
 inserted-each P v (w ∷ c) h k =
     either (ltb (v .started) (w .started)) (λ t. rw t (h, k)) (λ t. rw t (k .0, inserted-each P v c h (k .1)))
 
-pub stacked-each : (P : Instance → Type 0) (m : ℕ) (run : List Instance) → Each P run → Each P (stacked m run)
+stacked-each : (P : Instance → Type 0) (m : ℕ) (run : List Instance) → Each P run → Each P (stacked m run)
 unfolding stacked
 stacked-each P m [] h = tt
 stacked-each P m (v ∷ run) h =
     either (active m v)
     (λ t. rw t (inserted-each P v (stacked m run) (h .0) (stacked-each P m run (h .1))))
     (λ t. rw t (stacked-each P m run (h .1)))
+
+-- each of those at a moment is one of the run
+pub stacked-one : (m : ℕ) (run : List Instance) → Each (λ v. v ∈ run) (stacked m run)
+stacked-one m run = stacked-each (λ v. v ∈ run) m run (each-one run)
 
 -- the sizes are added up in another order
 inserted-weight : (S : ℕ → ℕ) (v : Instance) (c : List Instance) → weight S (places (inserted v c)) ≡ S (v .place) + weight S (places c)
@@ -94,8 +95,7 @@ inserted-nested m v (w ∷ c) there all apart nested =
     either (ltb (v .started) (w .started))
     (λ t.
     let first = ltb-true (v .started) (w .started) t in
-    rw t
-    ((omega arith, each-with (λ u here over. omega arith) c (all .1) (nested .0)), nested))
+    rw t ((omega arith, each-with (λ u here over. omega arith) c (all .1) (nested .0)), nested))
     (λ t.
     let last : w .started < v .started = omega (arith, ltb-false (v .started) (w .started) t, apart .0) in
     rw t
@@ -109,35 +109,22 @@ stacked-nested m (v ∷ run) apart =
     either (active m v)
     (λ t.
     rw t
-    (inserted-nested m v (stacked m run) (active-there m v t) (stacked-there m run) (stacked-each (λ w. v .started ≡ w .started → ⊥) m run (apart .0)) (stacked-nested m run (apart .1))))
+    (inserted-nested m v (stacked m run) (active-there m v t) (stacked-there m run)
+    (each-then (apart .0) (stacked m run) (stacked-one m run)) (stacked-nested m run (apart .1))))
     (λ t. rw t (stacked-nested m run (apart .1)))
 
--- a table and a map that has the cells which the table decides
-module _ (rs : List (List ℕ)) (rows : List ℕ)
-    (covers : (i j : ℕ) → i < taskCount rs → j < taskCount rs → decided rs i j ≡ true → cell rows i j ≡ true) where
+-- a table, a map, and a run in which a task that is preempted is related to the one that preempts it
+module _ (rs : List (List ℕ)) (rows : List ℕ) (run : List Instance)
+    (known : (v : Instance) → v ∈ run → v .place < taskCount rs)
+    (may : (v w : Instance) → v ∈ run → w ∈ run → StartsWithin v w → T (related rs rows (v .place) (w .place))) where
   -- an instance with those that start within it
-  under : (v : Instance) (c : List Instance) → v .place < taskCount rs → Each (λ w. w .place < taskCount rs) c
-      → Each (λ w. StartsWithin v w → decided rs (v .place) (w .place) ≡ true) c → Each (StartsWithin v) c
+  under : (v : Instance) (c : List Instance) → v ∈ run → Each (λ w. w ∈ run) c → Each (StartsWithin v) c
       → Under (taskCount rs) (related rs rows) (v .place) (places c)
-  under v [] known all may over = tt
-  under v (w ∷ c) known all may over =
-      let decision = may .0 (over .0) in (
-        relation-related rs rows (v .place) (w .place) (record {
-          first = known;
-          second = all .0;
-          yielding = decided-yields rs (v .place) (w .place) decision;
-          set = covers (v .place) (w .place) known (all .0) decision;
-        }),
-        under v c known (all .1) (may .1) (over .1),
-      )
+  under v [] one all within = tt
+  under v (w ∷ c) one all within = (may v w one (all .0) (within .0), under v c one (all .1) (within .1))
 
   -- Lemma 3: a preemption chain gives a possible preemption chain, that is, a chain of the map
-  pub lemma-3 : (c : List Instance) → Each (λ w. w .place < taskCount rs) c
-      → Each (λ v. Each (λ w. StartsWithin v w → decided rs (v .place) (w .place) ≡ true) c) c → Nested c
-      → Chain (taskCount rs) (related rs rows) (places c)
-  lemma-3 [] known may nested = tt
-  lemma-3 (v ∷ c) known may nested = (
-    known .0,
-    under v c (known .0) (known .1) (may .0 .1) (nested .0),
-    lemma-3 c (known .1) (each-then (λ u h. h .1) c (may .1)) (nested .1),
-  )
+  pub lemma-3 : (c : List Instance) → Each (λ v. v ∈ run) c → Nested c → Chain (taskCount rs) (related rs rows) (places c)
+  lemma-3 [] all nested = tt
+  lemma-3 (v ∷ c) all nested =
+      (known v (all .0), under v c (all .0) (all .1) (nested .0), lemma-3 c (all .1) (nested .1))
