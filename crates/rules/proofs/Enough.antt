@@ -1,24 +1,21 @@
 -- The reserve is enough, the paper's Theorem 1: the instances on the stack at a moment are a chain of the table's map, and
 -- no chain weighs more than the chain bound.
-use Prim.Native.Nat.{ℕ, _≤_, _<_}
+use Prim.Native.Nat.{ℕ, _≤_}
 use mathlib.Core.List.{List}
 use mathlib.Core.Bool.{true}
-use mathlib.Core.Path.{_≡_, sym, _∙_}
+use mathlib.Core.Path.{_≡_, _∙_}
 use native.Mathlib.Omega.{arith}
-use lib.Dec.{T}
 use Rattle.rules.specs.declared.Bounds.{Bounds}
 use Rattle.rules.specs.Numbers.{Bytes}
 use Rattle.rules.specs.Blocks.{records}
 use Rattle.rules.specs.Records.{taskCount}
-use Rattle.rules.specs.Preempt.{decided, cell, mapOf}
-use Rattle.rules.specs.Chains.{related, Figures, FiguresOf, chainBound}
-use Rattle.rules.specs.Execution.{Instance, _∈_, StartsWithin, KeepsTo, onStack, Enough}
+use Rattle.rules.specs.Preempt.{decided, mapOf}
+use Rattle.rules.specs.Chains.{Figures, FiguresOf, chainBound}
+use Rattle.rules.specs.Execution.{Instance, KeepsTo, onStack, Enough}
 use Rattle.rules.specs.Refusals.{accepted, tableVerdict}
 use Rattle.rules.specs.Calls.{over, mapVerdict, mapAfter, boundsFound, BoundCall}
 use Rattle.rules.specs.Runs.{Step}
 use Rattle.rules.proofs.Maps.{cell-of-map}
-use Rattle.rules.proofs.Related.{relation-related}
-use Rattle.rules.proofs.Reasons.{decided-yields}
 use Rattle.rules.proofs.Refusals.{accepted-parts}
 use Rattle.rules.proofs.Table.Listed.{listed-of}
 use Rattle.rules.proofs.Patch.Valid.{valid-of, valid-few-tasks}
@@ -27,16 +24,13 @@ use Rattle.rules.proofs.Patch.Run.{over-again, leftAfter, run-left, afr
 use Rattle.rules.proofs.FourBounds.{Ordered, figures-ordered}
 use Rattle.rules.proofs.FourBounds.Accepted.{accepted-listed, accepted-climbing}
 use Rattle.rules.proofs.FourBounds.Shown.{shown-accepted, worked}
-use Rattle.rules.proofs.Enough.Pairwise.{lemma-2}
-use Rattle.rules.proofs.Enough.Nesting.{stacked, places, stacked-one, stacked-weight, stacked-nested, lemma-3}
+use Rattle.rules.proofs.Enough.Stacked.{stacked, places, stacked-one, stacked-weight, stacked-nested}
+use Rattle.rules.proofs.Enough.Nesting.{Covers, lemma-3}
 pub mod Instances
 pub mod Pairwise
+pub mod Stacked
 pub mod Nesting
 pub mod Figure2
-
--- a map that has every cell which the table decides
-abbrev pub Covers : List (List ℕ) → List ℕ → Type 0
-Covers rs rows = (i j : ℕ) → i < taskCount rs → j < taskCount rs → decided rs i j ≡ true → cell rows i j ≡ true
 
 -- of an accepted table and any map that has those cells, the bounds are enough for any run that keeps to the table
 pub enough-over : (image rows : List ℕ) (f : Figures) → accepted (tableVerdict image) ≡ true → Covers (records image) rows
@@ -56,20 +50,10 @@ enough-over image rows f table covers right q run keeps =
     ordered : Ordered (boundsFound rs f)
     ordered = figures-ordered rs rows f (accepted-climbing image table) (accepted-listed image table) right
 
-    may : (v w : Instance) → v ∈ run → w ∈ run → StartsWithin v w → T (related rs rows (v .place) (w .place))
-    may v w one other within =
-        let decision = lemma-2 q rs (listed-of rs (accepted-parts image table .1)) run keeps v w one other within in
-        relation-related rs rows (v .place) (w .place)
-        (record {
-          first = keeps .known v one;
-          second = keeps .known w other;
-          yielding = decided-yields rs (v .place) (w .place) decision;
-          set = covers (v .place) (w .place) (keeps .known v one) (keeps .known w other) decision;
-        })
-
     most : (m : ℕ) → onStack rs m run ≤ chainBound rs f
     most m =
-        let chain = lemma-3 rs rows run (keeps .known) may (stacked m run) (stacked-one m run) (stacked-nested m run (keeps .one-by-one)) in
+        let named = listed-of rs (accepted-parts image table .1) in
+        let chain = lemma-3 q rs named run keeps rows covers (stacked m run) (stacked-one m run) (stacked-nested m run (keeps .one-by-one)) in
         omega (arith, stacked-weight rs m run, right .chain .most (places (stacked m run)) chain)
 
 -- Theorem 1: so are those of an accepted table over its own map

@@ -14,7 +14,8 @@ use Rattle.rules.specs.Records.{unmeasured, tasks, taskCount, taskAt, pe
 use Rattle.rules.specs.Preempt.{yields, barred}
 
 -- an instance of the task at a place of the table: when its transaction was activated (alpha), and when it was released
--- (rt), started (st) and finished (ft); times count in a unit that is q times finer than the table's
+-- (rt), started (st) and finished (ft); real instants are no whole numbers of the table's unit, so times count in one that
+-- is q times finer
 pub record Instance : Type 0 where
   pub place : ℕ
   pub activated : ℕ
@@ -79,7 +80,7 @@ pub record KeepsTo (q : ℕ) (rs : List (List ℕ)) (run : List Instance) : Type
       → v .activated < w .activated → v .activated + q * periodAt rs (v .place) ≤ w .activated
   -- instances start one by one
   pub one-by-one : OneByOne run
-  -- and within each other only where that is a preemption
+  -- and one starts within another only where it preempts it
   pub preempts :
       (v w : Instance) → v ∈ run → w ∈ run → StartsWithin v w
       → Preempts (barred rs (taskIn rs v .id) (taskIn rs w .id)) (taskIn rs v) (taskIn rs w) v w
@@ -88,7 +89,7 @@ pub record KeepsTo (q : ℕ) (rs : List (List ℕ)) (run : List Instance) : Type
 abbrev pub active : ℕ → Instance → Bool
 active m v = leb (v .started) m && ltb m (v .finished)
 
--- what is on the stack at moment m: the sizes of all instances that have started and not finished
+-- what is on the stack at moment m: of all instances that have started and not finished the whole S, as in (4)
 abbrev pub onStack : List (List ℕ) → ℕ → List Instance → ℕ
 onStack rs m [] = 0
 onStack rs m (v ∷ run) = cond (active m v) (taskIn rs v .size) 0 + onStack rs m run

@@ -1,13 +1,12 @@
 -- The bound is reached: a run of the paper's figure 2 that keeps to its table and has tasks 11, 12 and 23 nested.
-use Prim.Native.Nat.{ℕ, _+_, _*_, _≤_, _<_}
 use mathlib.Core.List.{List, [], _∷_}
 use mathlib.Core.Path.{_≡_, refl, ap, sym, _∙_}
 use native.Mathlib.Omega.{arith}
 use Rattle.rules.specs.Numbers.{lowest}
-use Rattle.rules.specs.Records.{ofKind, taskCount, periodAt}
+use Rattle.rules.specs.Records.{ofKind}
 use Rattle.rules.specs.Preempt.{barred, mapOf}
 use Rattle.rules.specs.Chains.{Figures, FiguresOf, chainBound}
-use Rattle.rules.specs.Execution.{Instance, InTime, StartsWithin, Preempts, taskIn, jitterMissing, KeepsTo, onStack}
+use Rattle.rules.specs.Execution.{Instance, KeepsTo, onStack}
 use Rattle.rules.proofs.FourBounds.Unique.{figures-unique}
 use Rattle.rules.proofs.Cases.{figure2, starred}
 use Rattle.rules.proofs.Enough.Instances.{each-at, each-two}

@@ -1,7 +1,7 @@
 -- Laws of what each instance of a run has, by recursion on the run.
 use mathlib.Core.List.{List, [], _∷_}
 use mathlib.Core.Logic.{inl, inr}
-use mathlib.Core.Path.{_≡_, refl}
+use mathlib.Core.Path.{refl}
 use Rattle.rules.specs.Execution.{Instance, _∈_}
 
 -- each instance of the run has the property

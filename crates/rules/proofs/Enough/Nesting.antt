@@ -1,130 +1,46 @@
--- Lemma 3: instances that have started and not finished at a moment, in the order of their starts, are a chain, because each
--- started within every one before it.
-use Prim.Native.Nat.{ℕ, _+_, _≤_, _<_}
+-- Lemma 3: instances of which each starts within every one before it are of tasks that are a chain, by Lemma 2.
+use Prim.Native.Nat.{ℕ, _<_}
 use mathlib.Core.List.{List, [], _∷_}
-use mathlib.Core.Bool.{Bool, true, cond, _&&_}
-use mathlib.Core.Path.{_≡_, refl, sym, _∙_}
-use native.Mathlib.Omega.{arith}
-use borrow.Author.Tests.{ltb-true, ltb-false, leb-true}
-use lib.Dec.{T, leb, ltb}
+use mathlib.Core.Bool.{true}
+use mathlib.Core.Path.{_≡_}
+use lib.Dec.{T}
 use Rattle.rules.specs.Records.{taskCount}
-use Rattle.rules.specs.Chains.{weight, Under, Chain, related, sizeAt}
-use Rattle.rules.specs.Execution.{Instance, _∈_, StartsWithin, OneByOne, active, onStack}
-use Rattle.rules.proofs.Numbers.{either}
-use Rattle.rules.proofs.Tests.{both-first, both-second}
-use Rattle.rules.proofs.Enough.Instances.{Each, each-then, each-with, each-one}
+use Rattle.rules.specs.Preempt.{decided, cell}
+use Rattle.rules.specs.Chains.{Under, Chain, related}
+use Rattle.rules.specs.Execution.{Instance, _∈_, StartsWithin, KeepsTo}
+use Rattle.rules.proofs.Related.{relation-related}
+use Rattle.rules.proofs.Reasons.{decided-yields}
+use Rattle.rules.proofs.Table.Listed.{Listed}
+use Rattle.rules.proofs.Enough.Instances.{Each}
+use Rattle.rules.proofs.Enough.Pairwise.{lemma-2}
+use Rattle.rules.proofs.Enough.Stacked.{places, Nested}
 
--- an instance put before the first that starts later
-unfoldable pub inserted : Instance → List Instance → List Instance
-inserted v [] = v ∷ []
-inserted v (w ∷ c) = cond (ltb (v .started) (w .started)) (v ∷ w ∷ c) (w ∷ inserted v c)
+-- a map that has every cell which the table decides
+abbrev pub Covers : List (List ℕ) → List ℕ → Type 0
+Covers rs rows = (i j : ℕ) → i < taskCount rs → j < taskCount rs → decided rs i j ≡ true → cell rows i j ≡ true
 
--- the instances that have started and not finished at moment m, in the order of their starts
-unfoldable pub stacked : ℕ → List Instance → List Instance
-stacked m [] = []
-stacked m (v ∷ run) = cond (active m v) (inserted v (stacked m run)) (stacked m run)
+-- a run that keeps to a table, and a map that has those cells
+module _ (q : ℕ) (rs : List (List ℕ)) (named : Listed rs) (run : List Instance) (keeps : KeepsTo q rs run) (rows : List ℕ) (covers : Covers rs rows) where
+  -- two instances
+  nests : (v w : Instance) → v ∈ run → w ∈ run → StartsWithin v w → T (related rs rows (v .place) (w .place))
+  nests v w one other within =
+      let may = lemma-2 q rs named run keeps v w one other within in
+      relation-related rs rows (v .place) (w .place)
+      (record {
+        first = keeps .known v one;
+        second = keeps .known w other;
+        yielding = decided-yields rs (v .place) (w .place) may;
+        set = covers (v .place) (w .place) (keeps .known v one) (keeps .known w other) may;
+      })
 
--- the places of their tasks
-abbrev pub places : List Instance → List ℕ
-places [] = []
-places (v ∷ c) = v .place ∷ places c
-
--- a preemption chain as Lemma 1 has it: each starts within every one before it
-abbrev pub Nested : List Instance → Type 0
-Nested [] = Unit {0}
-Nested (v ∷ c) = Each (StartsWithin v) c × Nested c
-
--- what each has keeps where one more is put in, and where those at a moment are taken
-inserted-each : (P : Instance → Type 0) (v : Instance) (c : List Instance) → P v → Each P c → Each P (inserted v c)
-unfolding inserted
-inserted-each P v [] h k = (h, tt)
-inserted-each P v (w ∷ c) h k =
-    either (ltb (v .started) (w .started)) (λ t. rw t (h, k)) (λ t. rw t (k .0, inserted-each P v c h (k .1)))
-
-stacked-each : (P : Instance → Type 0) (m : ℕ) (run : List Instance) → Each P run → Each P (stacked m run)
-unfolding stacked
-stacked-each P m [] h = tt
-stacked-each P m (v ∷ run) h =
-    either (active m v)
-    (λ t. rw t (inserted-each P v (stacked m run) (h .0) (stacked-each P m run (h .1))))
-    (λ t. rw t (stacked-each P m run (h .1)))
-
--- each of those at a moment is one of the run
-pub stacked-one : (m : ℕ) (run : List Instance) → Each (λ v. v ∈ run) (stacked m run)
-stacked-one m run = stacked-each (λ v. v ∈ run) m run (each-one run)
-
--- the sizes are added up in another order
-inserted-weight : (S : ℕ → ℕ) (v : Instance) (c : List Instance) → weight S (places (inserted v c)) ≡ S (v .place) + weight S (places c)
-unfolding inserted
-inserted-weight S v [] = refl
-inserted-weight S v (w ∷ c) =
-    either (ltb (v .started) (w .started)) (λ t. rw t) (λ t. rw t (omega (arith, inserted-weight S v c)))
-
-pub stacked-weight : (rs : List (List ℕ)) (m : ℕ) (run : List Instance) → weight (sizeAt rs) (places (stacked m run)) ≡ onStack rs m run
-unfolding stacked
-stacked-weight rs m [] = refl
-stacked-weight rs m (v ∷ run) =
-    either (active m v)
-    (λ t. rw t (inserted-weight (sizeAt rs) v (stacked m run) ∙ omega (arith, stacked-weight rs m run)))
-    (λ t. rw t (omega (arith, stacked-weight rs m run)))
-
--- an instance that is there at moment m
-abbrev There : ℕ → Instance → Type 0
-There m v = (v .started ≤ m) × (m < v .finished)
-
-active-there : (m : ℕ) (v : Instance) → active m v ≡ true → There m v
-active-there m v h = (
-  leb-true (v .started) m (both-first (leb (v .started) m) (ltb m (v .finished)) h),
-  ltb-true m (v .finished) (both-second (leb (v .started) m) (ltb m (v .finished)) h),
-)
-
-stacked-there : (m : ℕ) (run : List Instance) → Each (There m) (stacked m run)
-unfolding stacked
-stacked-there m [] = tt
-stacked-there m (v ∷ run) =
-    either (active m v)
-    (λ t. rw t (inserted-each (There m) v (stacked m run) (active-there m v t) (stacked-there m run)))
-    (λ t. rw t (stacked-there m run))
-
--- one more that is there, and starts when no other does, is put where it nests
-inserted-nested : (m : ℕ) (v : Instance) (c : List Instance) → There m v → Each (There m) c
-    → Each (λ w. v .started ≡ w .started → ⊥) c → Nested c → Nested (inserted v c)
-unfolding inserted
-inserted-nested m v [] there all apart nested = (tt, tt)
-inserted-nested m v (w ∷ c) there all apart nested =
-    either (ltb (v .started) (w .started))
-    (λ t.
-    let first = ltb-true (v .started) (w .started) t in
-    rw t ((omega arith, each-with (λ u here over. omega arith) c (all .1) (nested .0)), nested))
-    (λ t.
-    let last : w .started < v .started = omega (arith, ltb-false (v .started) (w .started) t, apart .0) in
-    rw t
-    (inserted-each (StartsWithin w) v c (omega arith) (nested .0), inserted-nested m v c there (all .1) (apart .1) (nested .1)))
-
--- so those that are there at a moment are nested
-pub stacked-nested : (m : ℕ) (run : List Instance) → OneByOne run → Nested (stacked m run)
-unfolding stacked
-stacked-nested m [] apart = tt
-stacked-nested m (v ∷ run) apart =
-    either (active m v)
-    (λ t.
-    rw t
-    (inserted-nested m v (stacked m run) (active-there m v t) (stacked-there m run)
-    (each-then (apart .0) (stacked m run) (stacked-one m run)) (stacked-nested m run (apart .1))))
-    (λ t. rw t (stacked-nested m run (apart .1)))
-
--- a table, a map, and a run in which a task that is preempted is related to the one that preempts it
-module _ (rs : List (List ℕ)) (rows : List ℕ) (run : List Instance)
-    (known : (v : Instance) → v ∈ run → v .place < taskCount rs)
-    (may : (v w : Instance) → v ∈ run → w ∈ run → StartsWithin v w → T (related rs rows (v .place) (w .place))) where
-  -- an instance with those that start within it
+  -- an instance, and those that start within it
   under : (v : Instance) (c : List Instance) → v ∈ run → Each (λ w. w ∈ run) c → Each (StartsWithin v) c
       → Under (taskCount rs) (related rs rows) (v .place) (places c)
   under v [] one all within = tt
-  under v (w ∷ c) one all within = (may v w one (all .0) (within .0), under v c one (all .1) (within .1))
+  under v (w ∷ c) one all within = (nests v w one (all .0) (within .0), under v c one (all .1) (within .1))
 
-  -- Lemma 3: a preemption chain gives a possible preemption chain, that is, a chain of the map
+  -- Lemma 3: a preemption chain gives a possible preemption chain, which is a chain of the map
   pub lemma-3 : (c : List Instance) → Each (λ v. v ∈ run) c → Nested c → Chain (taskCount rs) (related rs rows) (places c)
   lemma-3 [] all nested = tt
   lemma-3 (v ∷ c) all nested =
-      (known v (all .0), under v c (all .0) (all .1) (nested .0), lemma-3 c (all .1) (nested .1))
+      (keeps .known v (all .0), under v c (all .0) (all .1) (nested .0), lemma-3 c (all .1) (nested .1))
