@@ -23,7 +23,7 @@ pub record Instance : Type 0 where
   pub started : ℕ
   pub finished : ℕ
 
--- a run is a list of instances, in any order: v is one of them
+-- a run is a list of instances, in any order, as by any moment only finitely many have started: v is one of them
 infix 20 _∈_
 abbrev pub _∈_ : Instance → List Instance → Type 0
 v ∈ [] = ⊥

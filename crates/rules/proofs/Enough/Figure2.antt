@@ -51,7 +51,7 @@ pub figure2-reaches : onStack figure2 2588 figure2Run ≡ 8
 unfolding ofKind
 figure2-reaches = refl
 
--- which is the chain bound
+-- which is the chain bound, by the eleventh of the worked cases
 pub figure2-exactly : (f : Figures) → FiguresOf figure2 (mapOf figure2) f → onStack figure2 2588 figure2Run ≡ chainBound figure2 f
 figure2-exactly f right =
     let shows = starred .1 .1 .1 .1 .1 .1 .1 .1 .1 .1 .0 .1 in
