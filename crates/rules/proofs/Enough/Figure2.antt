@@ -1,12 +1,14 @@
 -- The bound is reached: a run of the paper's figure 2 that keeps to its table and has tasks 11, 12 and 23 nested.
+use Prim.Native.Nat.{_≤_, _<_}
 use mathlib.Core.List.{List, [], _∷_}
+use mathlib.Core.Bool.{true}
 use mathlib.Core.Path.{_≡_, refl, ap, sym, _∙_}
 use native.Mathlib.Omega.{arith}
 use Rattle.rules.specs.Numbers.{lowest}
 use Rattle.rules.specs.Records.{ofKind}
-use Rattle.rules.specs.Preempt.{barred, mapOf}
+use Rattle.rules.specs.Preempt.{yields, barred, mapOf}
 use Rattle.rules.specs.Chains.{Figures, FiguresOf, chainBound}
-use Rattle.rules.specs.Execution.{Instance, KeepsTo, onStack}
+use Rattle.rules.specs.Execution.{Instance, Preempts, taskIn, KeepsTo, onStack}
 use Rattle.rules.proofs.FourBounds.Unique.{figures-unique}
 use Rattle.rules.proofs.Cases.{figure2, starred}
 use Rattle.rules.proofs.Enough.Instances.{each-at, each-two}
@@ -24,6 +26,12 @@ of23 = record { place = 5; activated = 0; released = 2588; started = 2588; finis
 abbrev pub figure2Run : List Instance
 figure2Run = of11 ∷ of12 ∷ of23 ∷ []
 
+-- the table has no pairs: two of them nest where priority and times allow it
+nests : (v w : Instance) → yields (taskIn figure2 v) (taskIn figure2 w) ≡ true → v .started < w .released → w .finished ≤ v .finished
+    → Preempts (barred figure2 (taskIn figure2 v .id) (taskIn figure2 w .id)) (taskIn figure2 v) (taskIn figure2 w) v w
+unfolding lowest ofKind barred
+nests v w yielding unblocked inside = record { yielding = yielding; allowed = refl; unblocked = unblocked; inside = inside }
+
 -- it keeps to the table
 pub figure2-keeps : KeepsTo 1 figure2 figure2Run
 unfolding lowest ofKind barred
@@ -38,9 +46,9 @@ figure2-keeps =
       );
       preempts =
           each-two _ figure2Run (
-            (λ h. absurd (omega arith), (λ h. record { yielding = refl; allowed = refl; unblocked = omega arith; inside = omega arith }, (λ h. record { yielding = refl; allowed = refl; unblocked = omega arith; inside = omega arith }, tt))),
+            (λ h. absurd (omega arith), (λ h. nests of11 of12 refl (omega arith) (omega arith), (λ h. nests of11 of23 refl (omega arith) (omega arith), tt))),
             (
-              (λ h. absurd (omega arith), (λ h. absurd (omega arith), (λ h. record { yielding = refl; allowed = refl; unblocked = omega arith; inside = omega arith }, tt))),
+              (λ h. absurd (omega arith), (λ h. absurd (omega arith), (λ h. nests of12 of23 refl (omega arith) (omega arith), tt))),
               ((λ h. absurd (omega arith), (λ h. absurd (omega arith), (λ h. absurd (omega arith), tt))), tt),
             ),
           );
