@@ -1,10 +1,10 @@
 -- The map of a table is equations (7) and (8).
-use Prim.Native.Nat.{ℕ, _+_, _-_, _%_, _≤_, _<_}
+use Prim.Native.Nat.{ℕ, _+_, _-_, _≤_, _<_}
 use mathlib.Core.List.{List, []}
 use mathlib.Core.Bool.{Bool, true, false, _&&_, _||_, not}
 use mathlib.Core.Logic.{_↔_, _⊎_, inl, inr, ⊎-elim}
 use mathlib.Core.Path.{_≡_, refl, ap, sym, _∙_}
-use native.Mathlib.Nat.{add-mod-right, mod-eq-of-lt, mod-lt}
+use native.Mathlib.Nat.{mod-lt}
 use native.Mathlib.Omega.{arith}
 use borrow.Author.Tests.{lt-ltb, ltb-true, ltb-false, eq-eqb, eqb-true, eqb-false, not-true}
 use lib.Dec.{ltb, eqb}
@@ -20,19 +20,9 @@ use Rattle.rules.proofs.Table.Ranges.{task-ranges}
 use Rattle.rules.proofs.Table.Shape.{Shape}
 use Rattle.rules.proofs.Table.Listed.{Listed, table-of}
 use Rattle.rules.proofs.Maps.{cell-of-map}
+use Rattle.rules.proofs.Distance.{distance-above, distance-below}
 use Rattle.rules.proofs.Reasons.{timely, may-preempt-was}
 use Rattle.preempt.specs.Paper.{Together, period, Psi, Forbids, Reaches, Preempted}
-
--- (7): the remainder by cases
-pub distance-above : (t oi oj : ℕ) → oi < t → oj < t → oj ≤ oi → distance t oi oj ≡ oi - oj
-distance-above t oi oj h l above =
-    let e : oi + (t - oj) ≡ (oi - oj) + t = omega arith in
-    ap (λ (n : ℕ). n % t) e ∙ add-mod-right (oi - oj) t ∙ mod-eq-of-lt (omega arith)
-
-pub distance-below : (t oi oj : ℕ) → oi < t → oj < t → oi < oj → distance t oi oj ≡ t - (oj - oi)
-distance-below t oi oj h l below =
-    let e : oi + (t - oj) ≡ t - (oj - oi) = omega arith in
-    ap (λ (n : ℕ). n % t) e ∙ mod-eq-of-lt (omega arith)
 
 -- one of two tests holds
 either-holds : (a b : Bool) → (a || b) ≡ true → (a ≡ true) ⊎ (b ≡ true)

@@ -4,6 +4,7 @@ pub mod Bytes
 pub mod Bits
 pub mod Maps
 pub mod Reasons
+pub mod Distance
 pub mod Blocks
 pub mod Refusals
 pub mod Image
@@ -15,4 +16,5 @@ pub mod Related
 pub mod FourBounds
 pub mod Enumerate
 pub mod Cases
+pub mod Enough
 pub mod Cable

@@ -8,10 +8,11 @@ use lib.Dec.{T, leb, eqb}
 use Rattle.rules.specs.declared.Reason.{Reason}
 use Rattle.rules.specs.declared.Reason.the-variants.{Transaction, Jitter, Response, Priority, Pair, Timing}
 use Rattle.rules.specs.declared.Task.{Task}
-use Rattle.rules.specs.Records.{taskCount}
+use Rattle.rules.specs.Records.{taskCount, taskAt, periodAt}
 use Rattle.rules.specs.Reasons.{told}
-use Rattle.rules.specs.Preempt.{distance, jitterReaches, responseReaches, yields, reason, mayPreempt, reasonAt, decided, mapOf}
+use Rattle.rules.specs.Preempt.{distance, jitterReaches, responseReaches, yields, reason, mayPreempt, barred, reasonAt, decided, mapOf}
 use Rattle.rules.specs.Chains.{related}
+use Rattle.rules.proofs.Tests.{both-first}
 use Rattle.rules.proofs.Maps.{cell-of-map}
 use Rattle.rules.proofs.Related.{related-says}
 
@@ -55,6 +56,13 @@ first-three Timing = refl
 pub decided-reason : (rs : List (List ℕ)) (i j : ℕ) → decided rs i j ≡ told (reasonAt rs i j) .set
 unfolding decided mayPreempt reasonAt
 decided-reason rs i j = refl
+
+-- a task that may be preempted by another yields to it
+pub decided-yields : (rs : List (List ℕ)) (i j : ℕ) → decided rs i j ≡ true → yields (taskAt rs i) (taskAt rs j) ≡ true
+unfolding decided
+decided-yields rs i j may =
+    both-first (yields (taskAt rs i) (taskAt rs j)) _
+    (sym (may-preempt-was (periodAt rs i) (barred rs (taskAt rs i .id) (taskAt rs j .id)) (taskAt rs i) (taskAt rs j)) ∙ may)
 
 -- a task with itself, as its threshold is never below its priority
 pub itself-priority : (t : ℕ) (barred : Bool) (i : Task) → i .priority ≤ i .threshold → reason t barred i i ≡ Priority

@@ -4,12 +4,12 @@ use Prim.Native.Nat.{ℕ, _<_}
 use mathlib.Core.List.{List}
 use mathlib.Core.Bool.{Bool, true, _&&_}
 use mathlib.Core.Path.{_≡_}
-use borrow.Author.Tests.{ltb-true}
+use borrow.Author.Tests.{ltb-true, lt-ltb}
 use lib.Dec.{T, ltb}
 use Rattle.rules.specs.Records.{taskCount, taskAt}
 use Rattle.rules.specs.Preempt.{yields, cell}
 use Rattle.rules.specs.Chains.{related, priorityAt}
-use Rattle.rules.proofs.Tests.{T-true, both}
+use Rattle.rules.proofs.Tests.{T-true, true-T, both}
 
 -- what it takes that two places are related
 pub record Relation (rs : List (List ℕ)) (rows : List ℕ) (i j : ℕ) : Type 0 where
@@ -31,6 +31,12 @@ related-says rs rows i j p =
       yielding = T-true yielding (both yielding (cell rows i j) rest .0);
       set = T-true (cell rows i j) (both yielding (cell rows i j) rest .1);
     }
+
+-- and it takes no more
+pub relation-related : (rs : List (List ℕ)) (rows : List ℕ) (i j : ℕ) → Relation rs rows i j → T (related rs rows i j)
+unfolding related
+relation-related rs rows i j says =
+    true-T (related rs rows i j) (rw (lt-ltb i (taskCount rs) (says .first), lt-ltb j (taskCount rs) (says .second), says .yielding, says .set))
 
 -- a task of the table yields only to tasks of higher priority
 abbrev pub Climbing : List (List ℕ) → Type 0

@@ -4,6 +4,7 @@ pub mod Records
 pub mod Reasons
 pub mod Preempt
 pub mod Chains
+pub mod Execution
 pub mod Patches
 pub mod Refusals
 pub mod Calls

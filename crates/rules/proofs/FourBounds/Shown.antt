@@ -42,7 +42,8 @@ module _ (image rows ids : List ℕ) (answer : Bounds) (later : List ℕ) (call 
   unfolding boundVerdict
   shown-accepted = accepted-first (tableVerdict image) (shortRefusal (ltb (length rows) 64 || ltb (length ids) 64)) verdict-accepted
 
-  worked : BoundsWorkedOut (records image) rows ids answer later
+  -- and its bounds are worked out
+  pub worked : BoundsWorkedOut (records image) rows ids answer later
   worked = call .worked verdict-accepted
 
   -- the chain is written whole

@@ -53,7 +53,7 @@ over-cell : (map rows : List ℕ) (i j : ℕ) → i < length map → cell (over 
 over-cell map rows i j h = ap (λ (row : ℕ). bitAt row j) (List·getD-append map (drop (length map) rows) 0 i h)
 
 -- a cell of a table's true map is what the table decides
-true-cell : (rs : List (List ℕ)) (rows : List ℕ) → Valid rs → rows ≡ over (mapOf rs) rows
+pub true-cell : (rs : List (List ℕ)) (rows : List ℕ) → Valid rs → rows ≡ over (mapOf rs) rows
     → (i j : ℕ) → i < taskCount rs → j < taskCount rs → cell rows i j ≡ decided rs i j
 true-cell rs rows table right i j h l =
     let few = valid-few-tasks rs table in

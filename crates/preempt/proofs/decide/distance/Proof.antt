@@ -3,7 +3,7 @@ use Prim.Native.Nat.{_<_}
 use native.Mathlib.Omega.{arith}
 use borrow.Author.Tests.{ltb-true}
 use borrow.Author.Needs.{needs}
-use Rattle.preempt.proofs.Paper.{distance-above, distance-below}
+use Rattle.rules.proofs.Distance.{distance-above, distance-below}
 use Rattle.preempt.proofs.decide.distance.Statement.{statement}
 use Rattle.preempt.proofs.decide.distance.Tie as tie
 
