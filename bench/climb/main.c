@@ -1,6 +1,6 @@
 /* Climbs to tables whose search visits many sets: changes a table by chance, and keeps what visits no fewer. Writes the image
- * of the worst table to standard output, and says on standard error what each start came to: climb MILLIONS, where each start
- * ends once its searches have visited so many million sets in all. */
+ * of the worst table to standard output, and on standard error a table of what each start came to: climb MILLIONS, where each
+ * start ends once its searches have visited so many million sets in all. */
 #include <stdio.h>
 #include <stdlib.h>
 
@@ -8,6 +8,15 @@
 #include "change.h"
 
 enum { STARTS = 6 };
+
+static const char *const start_names[STARTS] = {
+    "each task may meet every other but for 256 pairs",
+    "the same, drawn again",
+    "full: 64 tasks, 16 transactions, 256 pairs",
+    "64 tasks, 16 transactions, priorities to 32",
+    "64 tasks, 4 transactions, priorities to 255",
+    "64 tasks, 16 transactions, priorities to 255",
+};
 
 /* A table and the sets that its search visits. */
 struct climbed {
@@ -58,8 +67,8 @@ static struct climbed climb(size_t start, uint64_t budget)
         if (next.sets >= best.sets)
             best = next;
     }
-    fprintf(stderr, "climb: %llu sets, from %llu, after %zu steps\n", (unsigned long long)best.sets,
-            (unsigned long long)first, steps);
+    fprintf(stderr, "| %s | %llu | %llu | %zu |\n", start_names[start], (unsigned long long)first,
+            (unsigned long long)best.sets, steps);
     return best;
 }
 
@@ -73,6 +82,7 @@ int main(int argc, char **argv)
         fprintf(stderr, "usage: climb MILLIONS\n");
         return 2;
     }
+    fprintf(stderr, "| Start | Sets visited there | at the end | Changes tried |\n|---|---|---|---|\n");
     start_random(1);
     for (size_t start = 0; start < STARTS; start++) {
         struct climbed found = climb(start, budget);

@@ -1,8 +1,9 @@
 /* Cliquer's search, in a process of its own that ends after a limit. */
-#define _POSIX_C_SOURCE 200809L
+#define _XOPEN_SOURCE 700
 #include "clique.h"
 
 #include <cliquer/cliquer.h>
+#include <sys/time.h>
 #include <sys/wait.h>
 #include <unistd.h>
 
@@ -68,18 +69,25 @@ static void find(void *about)
     sought->weight = (uint32_t)clique_max_weight(sought->graph, &options);
 }
 
-/* Times the search and says what it found through the pipe; the alarm ends it at the limit. */
+/* Ends this process after so many seconds of processor time, or never with 0. */
+static void end_after(time_t seconds)
+{
+    struct itimerval limit = {.it_value = {.tv_sec = seconds}};
+    setitimer(ITIMER_PROF, &limit, NULL);
+}
+
+/* Times the search and says what it found through the pipe, unless the first search passes the limit. */
 static void search_and_say(const struct input *input, int pipe_end)
 {
     struct sought sought = {near_graph(input), 0};
-    alarm(LIMIT_SECONDS);
+    end_after(LIMIT_SECONDS);
     find(&sought);
-    alarm(0);
+    end_after(0);
     struct said said = {seconds_of_one(find, &sought), sought.weight};
     _exit(write(pipe_end, &said, sizeof said) != sizeof said);
 }
 
-/* The seconds of one search and the weight found, or false where one search takes longer than two seconds. */
+/* The seconds of one search and the weight found, or false where one search takes longer than two seconds of processor time. */
 bool time_clique(const struct input *input, double *seconds, uint32_t *weight)
 {
     int ends[2];

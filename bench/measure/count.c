@@ -1,25 +1,22 @@
-/* Makes each call once on each input, for every side, between two calls of `mark`, so that the emulator's trace has the
- * instructions of each call from one mark to the next. Says on standard output what it makes, in that order. */
+/* Makes each call once on each input, for every side, under valgrind's callgrind, which dumps the instructions of each call
+ * under the class, the call and the side with tabs between: count INPUTS. */
+#include <valgrind/callgrind.h>
+
 #include "calls.h"
 
 /* A search that visits more sets than this is left out. */
 enum { MOST_SETS = 3000 };
 
-/* Stands in the trace before and after each call. */
-__attribute__((noinline)) void mark(void)
-{
-    __asm__ volatile("");
-}
-
 /* Makes a call for every side. */
 static void count(size_t made, const struct input *input)
 {
     static struct answer answer;
+    char label[MOST_CLASS_BYTES + 64];
     for (size_t side = 0; side < side_count; side++) {
-        printf("%s\t%s\t%s\n", input->class, call_names[made], sides[side]->name);
-        mark();
+        snprintf(label, sizeof label, "%s\t%s\t%s", input->class, call_names[made], sides[side]->name);
+        CALLGRIND_ZERO_STATS;
         calls[made](sides[side], input, &answer);
-        mark();
+        CALLGRIND_DUMP_STATS_AT(label);
     }
 }
 

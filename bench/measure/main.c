@@ -117,8 +117,11 @@ int main(int argc, char **argv)
     read_instructions(instructions, classes, class_count);
     fclose(inputs);
     fclose(instructions);
+    printf("## The calls in short, library by plain C\n\n");
+    print_summary(classes, class_count);
+    printf("\n## The calls, library by plain C\n\n");
     print_calls(classes, class_count);
-    printf("\n");
+    printf("\n## The chain\n\n");
     print_chains(classes, class_count, SETS_OF_INPUT, has_cliquer);
     return 0;
 }

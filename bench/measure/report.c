@@ -42,26 +42,24 @@ static int compare(const void *a, const void *b)
     return (x > y) - (x < y);
 }
 
-/* The figure that has this part of all others below it. */
-static double at_part(const struct figures *figures, double part)
+/* The figure with so many others below it, or 0 where there are not so many. */
+static double at_rank(const struct figures *figures, size_t rank)
 {
     struct figures sorted = *figures;
-    if (sorted.count == 0)
-        return 0;
     qsort(sorted.figure, sorted.count, sizeof sorted.figure[0], compare);
-    return sorted.figure[(size_t)(part * (double)(sorted.count - 1))];
+    return rank < sorted.count ? sorted.figure[rank] : 0;
 }
 
-/* The middle figure. */
+/* The middle figure, or halfway between the two in the middle. */
 static double median(const struct figures *figures)
 {
-    return at_part(figures, 0.5);
+    return (at_rank(figures, (figures->count - 1) / 2) + at_rank(figures, figures->count / 2)) / 2;
 }
 
 /* The largest figure. */
 static double worst(const struct figures *figures)
 {
-    return at_part(figures, 1);
+    return at_rank(figures, figures->count - 1);
 }
 
 /* Prints the ratios of one call on a class by one side: time, median and worst, and instructions. */
@@ -83,10 +81,55 @@ static void print_ratios(const struct class *class, size_t made, size_t side)
 static void print_call(const struct class *class, size_t made)
 {
     printf("| %s | %s | %zu ", class->name, call_names[made], class->seconds[made][LIBRARY].count);
-    printf("| %.1f ", 1e6 * median(&class->seconds[made][LIBRARY]));
+    printf("| %.2f ", 1e6 * median(&class->seconds[made][LIBRARY]));
     print_ratios(class, made, GCC);
     print_ratios(class, made, CLANG);
     printf("|\n");
+}
+
+/* Prints the least, the middle and the largest figure. */
+static void print_range(const struct figures *figures)
+{
+    if (figures->count == 0)
+        printf("| - ");
+    else
+        printf("| %.2f, %.2f, %.2f ", at_rank(figures, 0), median(figures), worst(figures));
+}
+
+/* Prints the ratios of one call by one side over all classes: the medians of time, the worst time, and instructions. */
+static void print_ranges(const struct class *classes, size_t count, size_t made, size_t side)
+{
+    struct figures medians = {.count = 0}, worsts = {.count = 0}, instructions = {.count = 0};
+    if (side >= side_count) {
+        printf("| skipped | skipped | skipped ");
+        return;
+    }
+    for (size_t c = 0; c < count; c++) {
+        const double *counted = classes[c].instructions[made];
+        if (classes[c].ratio[made][side].count == 0)
+            continue;
+        add(&medians, median(&classes[c].ratio[made][side]));
+        add(&worsts, worst(&classes[c].ratio[made][side]));
+        if (counted[side] > 0)
+            add(&instructions, counted[LIBRARY] / counted[side]);
+    }
+    print_range(&medians);
+    printf("| %.2f ", worst(&worsts));
+    print_range(&instructions);
+}
+
+/* Prints a row for each call, over all classes. */
+void print_summary(const struct class *classes, size_t count)
+{
+    printf("The least, the middle and the largest of the classes' medians, and of their instructions.\n\n");
+    printf("| Call | By gcc: medians | worst | instructions | By clang: medians | worst | instructions |\n");
+    printf("|---|---|---|---|---|---|---|\n");
+    for (size_t made = 0; made < CALLS; made++) {
+        printf("| %s ", call_names[made]);
+        print_ranges(classes, count, made, GCC);
+        print_ranges(classes, count, made, CLANG);
+        printf("|\n");
+    }
 }
 
 /* Prints a row for each class and call. */
@@ -104,11 +147,11 @@ void print_calls(const struct class *classes, size_t count)
 /* Prints the chain of one class beside Cliquer's. */
 static void print_clique(const struct class *class)
 {
-    printf("| %.3f ", 1e3 * median(&class->chain_seconds));
+    printf("| %.4f ", 1e3 * median(&class->chain_seconds));
     if (class->clique_ratio.count == 0)
         printf("| over 2 s | - | - |\n");
     else
-        printf("| %.3f | %.2f | %.2f |\n", 1e3 * median(&class->clique_seconds), median(&class->clique_ratio),
+        printf("| %.4f | %.2f | %.2f |\n", 1e3 * median(&class->clique_seconds), median(&class->clique_ratio),
                worst(&class->clique_ratio));
 }
 
@@ -124,7 +167,23 @@ static void print_chain(const struct class *class, uint64_t limit, bool has_cliq
     if (has_clique)
         print_clique(class);
     else
-        printf("| %.3f | skipped | skipped | skipped |\n", 1e3 * median(&class->chain_seconds));
+        printf("| %.4f | skipped | skipped | skipped |\n", 1e3 * median(&class->chain_seconds));
+}
+
+/* Says in how many classes the chain takes at most half as long as Cliquer's, at most as long, and longer. */
+static void print_shares(const struct class *classes, size_t count)
+{
+    size_t half = 0, as_long = 0, longer = 0;
+    for (size_t c = 0; c < count; c++) {
+        double ratio = median(&classes[c].clique_ratio);
+        if (classes[c].clique_ratio.count == 0)
+            continue;
+        half += ratio <= 0.5;
+        as_long += 0.5 < ratio && ratio <= 1;
+        longer += 1 < ratio;
+    }
+    printf("\nBy medians the library takes at most half of Cliquer's time in %zu classes, ", half);
+    printf("more than half and at most all of it in %zu, and longer in %zu.\n", as_long, longer);
 }
 
 /* Prints the sets that the searches visited, of those that did not pass the limit, and the chain beside Cliquer's. */
@@ -136,4 +195,6 @@ void print_chains(const struct class *classes, size_t count, uint64_t limit, boo
     for (size_t c = 0; c < count; c++)
         if (classes[c].tables > 0)
             print_chain(&classes[c], limit, has_clique);
+    if (has_clique)
+        print_shares(classes, count);
 }

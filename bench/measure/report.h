@@ -27,6 +27,8 @@ void add(struct figures *figures, double figure);
 
 void read_instructions(FILE *file, struct class *classes, size_t count);
 
+void print_summary(const struct class *classes, size_t count);
+
 void print_calls(const struct class *classes, size_t count);
 
 void print_chains(const struct class *classes, size_t count, uint64_t limit, bool has_clique);
