@@ -28,6 +28,7 @@ pub mod records;
 pub mod report;
 pub mod reverse_call;
 pub mod round_trip;
+pub mod simulate;
 pub mod sorts;
 pub mod stream;
 pub mod table;

@@ -3,6 +3,7 @@
 #![forbid(unsafe_code)]
 
 use std::io::{self, BufReader, BufWriter, Read, Write};
+use std::num::NonZeroUsize;
 use std::process::ExitCode;
 
 use second::answer::answer;
@@ -13,6 +14,7 @@ use second::generate::{write_stream, Wanted};
 use second::heaviest::heaviest;
 use second::numbered_cases::{patch_of, runs_of};
 use second::report::{bounds_report, reasons_report};
+use second::simulate::simulate;
 use second::sorts::Sorts;
 use second::stream::Case;
 use second::table::Table;
@@ -20,6 +22,7 @@ use second::table::Table;
 const USAGE: &str =
     "usage: second bounds | reasons | generate SEED LETTERS COUNT | answer | sorts | figure2 \
                      | unmeasured | thresholds | heaviest | cancelled | patch NUMBER | case NUMBER \
+                     | simulate SEED COUNT \
                      (LETTERS are some of T, P, M, B, A, R, W, V, U and L; NUMBER is 11, 12 or 13)";
 
 /// What the command line asks for.
@@ -29,6 +32,10 @@ enum Command {
         seed: u64,
         wanted: Vec<Wanted>,
         count: usize,
+    },
+    Simulate {
+        seed: u64,
+        count: NonZeroUsize,
     },
     Answer,
     Sorts,
@@ -72,6 +79,10 @@ fn command_from(words: &[&str]) -> Option<Command> {
             wanted: wanted_from(letters)?,
             count: count.parse().ok()?,
         }),
+        ["simulate", seed, count] => Some(Command::Simulate {
+            seed: seed.parse().ok()?,
+            count: count.parse().ok()?,
+        }),
         _ => None,
     }
 }
@@ -92,6 +103,10 @@ fn run(command: Command) -> io::Result<()> {
             wanted,
             count,
         } => write_stream(seed, &wanted, count, &mut output)?,
+        Command::Simulate { seed, count } => {
+            let totals = simulate(seed, count.get()).map_err(io::Error::other)?;
+            writeln!(output, "{totals}")?;
+        }
         Command::Answer => answer_all(&mut input, &mut output)?,
         Command::Sorts => output.write_all(sorts_in(&mut input)?.lines().as_bytes())?,
         Command::Table(table) => output.write_all(&image_of(Form::Table, &table.records()))?,

@@ -117,6 +117,16 @@ fn sorts_are_counted_where_their_calls_are() {
 }
 
 #[test]
+fn simulated_systems_are_told_in_one_line() {
+    let line = printed(&["simulate", "1", "20"], &[]);
+    assert_eq!(line.lines().count(), 1);
+    assert!(line.starts_with("20 systems, "));
+    assert!(line.contains(" instances: bound never passed, reached in "));
+    assert_eq!(printed(&["simulate", "1", "20"], &[]), line);
+    assert_ne!(printed(&["simulate", "2", "20"], &[]), line);
+}
+
+#[test]
 fn no_tasks_print_zeros() {
     assert_eq!(
         printed(&["bounds"], &table_image(&Table::default())),
@@ -165,7 +175,7 @@ fn input_past_the_longest_table_is_refusal_1() {
 
 #[test]
 fn wrong_usage_is_told_on_standard_error() {
-    let wrong: [&[&str]; 10] = [
+    let wrong: [&[&str]; 13] = [
         &[],
         &["other"],
         &["bounds", "more"],
@@ -176,6 +186,9 @@ fn wrong_usage_is_told_on_standard_error() {
         &["case"],
         &["case", "14"],
         &["patch", "twelve"],
+        &["simulate", "1"],
+        &["simulate", "one", "3"],
+        &["simulate", "1", "0"],
     ];
     for arguments in wrong {
         let output = run(arguments, &[]);

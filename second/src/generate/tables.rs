@@ -132,7 +132,7 @@ pub fn distinct_numbers(random: &mut Random, count: usize) -> Vec<u16> {
 }
 
 /// Up to this many pairs of these tasks, in table order.
-fn draw_pairs(random: &mut Random, ids: &[u16], count: usize) -> Vec<Pair> {
+pub fn draw_pairs(random: &mut Random, ids: &[u16], count: usize) -> Vec<Pair> {
     let room = ids.len() * ids.len().saturating_sub(1);
     let mut sorts = BTreeMap::new();
     while sorts.len() < count.min(room) {
