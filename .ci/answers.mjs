@@ -51,13 +51,19 @@ function reasons(image, ids) {
 function patched(base, patch, baseMap, room, newMap) {
   const answer = siodlomil.patch(base, patch, baseMap, room, newMap);
   const { at: start, length } = siodlomil.offending(base, patch);
-  return { answer, numbers: [...Object.values(answer), length], part: patch.subarray(start, start + length) };
+  const { number, place, touched, length: bytes } = answer;
+  return { answer, numbers: [number, place, touched, bytes, length], part: patch.subarray(start, start + length) };
+}
+
+// The numbers of a bound call, by their names.
+function numbersOf({ number, place, tasks, chain, path, transactions, levels, length }) {
+  return [number, place, tasks, chain, path, transactions, levels, length];
 }
 
 function standing({ image, map }) {
   const ids = new Uint16Array(CHAIN_IDS);
   const found = siodlomil.bounds(image, map, ids);
-  return [digest(image), digest(map), ...Object.values(found), ...ids.subarray(0, found.length), ...map.subarray(0, found.tasks)];
+  return [digest(image), digest(map), ...numbersOf(found), ...ids.subarray(0, found.length), ...map.subarray(0, found.tasks)];
 }
 
 // Puts a patch to what stands, with so much lent, every byte 255; answers what stands then, and the numbers of the step.
@@ -79,7 +85,7 @@ const calls = {
   B(lent) {
     const [image, map] = [take(Uint8Array, lent.image), take(BigUint64Array, lent.baseRows)];
     const ids = take(Uint16Array, lent.ids);
-    return [...Object.values(siodlomil.bounds(image, map, ids)), digest(ids)];
+    return [...numbersOf(siodlomil.bounds(image, map, ids)), digest(ids)];
   },
   A(lent) {
     const [base, patch] = [take(Uint8Array, lent.image), take(Uint8Array, lent.patch)];

@@ -20,12 +20,14 @@
  *     siodlomil_reverse       21,792    21,776
  *     siodlomil_offending      1,184     1,024
  *
+ *   To that come what memcpy and memset use and up to 160 bytes: arguments that have no register, and on Arm the inline
+ *   function at the end of this header where a compiler does not put it in line.
  * - Each pointer is followed by its length, counted in elements. It points to that many elements, aligned for their type,
  *   and is not NULL even where the length is 0.
  * - A buffer that is written overlaps no other buffer of the same call. Buffers that are only read may overlap each other.
  * - Any bytes are an image to the library: whatever is wrong with them is told by a refusal.
  * - An accepted call answers number 0 and place 0. A refused one answers the number and place of its refusal, all else is
- *   0, and nothing is written: every lent buffer is as it was.
+ *   0, and nothing is written: every lent buffer is as it was. (siodlomil_offending refuses nothing.)
  *
  * Records are 32 bytes each, and their numbers are little-endian. Bytes that are not named here are 0.
  *
@@ -167,7 +169,8 @@ typedef struct siodlomil_offending_answer {
 /*
  * The archive writes an answer of more than 16 bytes through a pointer, its first argument. On x86-64 that is how C returns
  * such an answer. On Arm C hands the pointer over in another register, so there a program calls an inline function, at the
- * end of this header, which calls the archive's. Programs look the same on both.
+ * end of this header, which calls the archive's. Programs look the same on both. Another language, which does not read this
+ * header, has to declare siodlomil_bounds on Arm as siodlomil_bounds_into is declared there.
  */
 #ifdef __x86_64__
 #define SIODLOMIL_LONG_ANSWER
@@ -268,7 +271,7 @@ siodlomil_offending_answer siodlomil_offending(const uint8_t *base, size_t base_
                                                size_t patch_bytes);
 
 #ifndef __x86_64__
-/* The archive's function, and the one that a program calls. */
+/* The archive's siodlomil_bounds under a name for this header alone, and the siodlomil_bounds that a program calls. */
 void siodlomil_bounds_into(siodlomil_bounds_answer *answer, const uint8_t *image, size_t image_bytes,
                            const uint64_t *map, size_t map_rows, uint16_t *ids, size_t ids_entries)
     SIODLOMIL_LINKED_AS("siodlomil_bounds");

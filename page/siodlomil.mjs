@@ -1,12 +1,13 @@
 // Siodlomil in a browser or in node, over siodlomil.wasm (`tools/archive wasm32`). What each call is lent, answers and writes
 // is told function by function in include/siodlomil.h; the names, the order of the buffers and the refusals are the same.
 //
-//     import { load } from "./siodlomil.mjs";
-//     const siodlomil = await load(bytes);
+//     import { load, MAP_ROWS } from "./siodlomil.mjs";
+//     const siodlomil = await load(await (await fetch("siodlomil.wasm")).arrayBuffer());
 //     const answer = siodlomil.map(image, new BigUint64Array(MAP_ROWS));
 //
 // Images and rooms for them are Uint8Array, maps BigUint64Array, ids Uint16Array. A call works on copies in the module's own
-// memory and copies back what it was lent to write, so a refused call leaves every buffer as it was.
+// memory and copies back what it was lent to write, so a refused call leaves every buffer as it was, and one buffer may be lent
+// twice.
 
 export const TABLE_BYTES = 11776;
 export const PATCH_BYTES = 23040;

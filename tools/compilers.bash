@@ -1,11 +1,12 @@
 # Sourced behind kit.bash: C compilers for the targets of tools/archive that are Linux, and what runs their programs here.
 case $machine in
   x86_64) own_target=x86-64-linux ;;
-  *) own_target=aarch64-linux ;;
+  aarch64) own_target=aarch64-linux ;;
+  *) echo "this is a machine for neither x86-64 nor Arm: $machine" >&2; exit 1 ;;
 esac
 
-# Sets what a target needs: its compiler, the words to link a program, what runs one here, and the packages of Debian that
-# have them: choose_target TARGET
+# Sets what a target needs: `compiler`, the words to `link` a program, the `runner` of one here, and the `packages` of Debian
+# that have them: choose_target TARGET
 choose_target() {
   link=(-static)
   case $1 in
@@ -21,8 +22,8 @@ is_chosen_usable() {
   printf '#include <stdio.h>\nint main(void) { return 0; }\n' | "$compiler" "${link[@]}" -x c -o /dev/null - 2>/dev/null
 }
 
-# Installs packages where this is a Debian machine and the user may: install PACKAGE...
-install() {
+# Installs packages where this is a Debian machine and the user may: install_packages PACKAGE...
+install_packages() {
   [ "$(id -u)" -eq 0 ] && command -v apt-get >/dev/null || return 1
   { timeout 60 apt-get update && timeout 300 apt-get install -y --no-install-recommends "$@"; } </dev/null >/dev/null 2>&1
 }

@@ -5,10 +5,10 @@ package siodlomil;
  * lent, answers and writes is told function by function in include/siodlomil.h; the order of the buffers and the refusals are
  * the same. A refused call leaves every array as it was.
  *
- * Ids are 16 bits without a sign: of an entry of {@code ids} take {@code & 0xffff}. A row of a map is 64 cells.
+ * <p>Ids are 16 bits without a sign: of an entry of {@code ids} take {@code & 0xffff}. A row of a map is 64 cells.
  *
- * @throws NullPointerException where an array is null
- * @throws IllegalArgumentException where an array that is written is lent twice in one call
+ * <p>Every call throws NullPointerException where an array is null, and IllegalArgumentException where an array that is
+ * written is lent twice.
  */
 public final class Siodlomil {
     public static final int TABLE_BYTES = 11776;
