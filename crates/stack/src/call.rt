@@ -17,7 +17,6 @@ use crate::own::transaction_bound;
 use crate::path::path_bound;
 use crate::related::related_rows;
 use crate::search::heaviest_chain;
-use preempt::places::all_below;
 use preempt::places::wide;
 use preempt::tasks::Tasks;
 use preempt::tasks::read_tasks;
@@ -68,7 +67,7 @@ fn find_over(
     ensures { λ r. ⌜ FoundOver count (now (rows .entry)) (now (sizes .entry)) (now (priorities .entry)) (now (numbers .entry)) (transactions (records (now (image .entry)))) r ⌝ }
 {
     let best = heaviest_chain(rows, sizes, priorities, count);
-    let path = path_bound(rows, sizes, order, count, all_below(count));
+    let path = path_bound(rows, sizes, order, count);
     let own = transaction_bound(image, numbers, rows, sizes, order, count);
     let levels = level_bound(priorities, sizes, count);
     let places = best.places;
