@@ -1,6 +1,7 @@
 // The C interface: the calls of the library under names that C can link. Each lent slice is a pointer and its length.
 ghost use mathlib.Core.Path.{_≡_};
 ghost use Rattle.rules.specs.Calls.{mapVerdict, mapAfter, BoundCall, reasonAnswer, PatchCall, OffendsAt, reverseAnswer, reverseAfter};
+use image::records::record_start;
 use patch::absent::verdict_of_both;
 use patch::call::apply_patch;
 use preempt::map::fill_map;
@@ -75,9 +76,9 @@ pub extern "C" fn siodlomil_offending(base: &[u8], patch: &[u8]) -> Offending
     if verdict.number != 9 {
         return Offending { at: 0, length: 0 };
     }
-    let place = verdict.place as u64;
+    let place = verdict.place as usize;
     Offending {
-        at: 512 * (place / 15) + 8 + 32 * (place % 15),
+        at: record_start(place) as u64,
         length: 32,
     }
 }
