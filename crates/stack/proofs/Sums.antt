@@ -9,11 +9,10 @@ use native.Mathlib.Omega.{arith}
 use lib.ListN.{length, getD, replicate, set as set-at, length-set}
 use lib.Seq.{getD-set-same, getD-set-other}
 use lib.Dec.{T}
-use Rattle.rules.specs.Preempt.{cell}
+use Rattle.rules.specs.Preempt.{cell, bitAt}
 use Rattle.rules.specs.Chains.{weight, Path, All}
 use Rattle.rules.proofs.Numbers.{either, never}
 use Rattle.rules.proofs.Tests.{both-first, both-second, T-true, true-T}
-use Rattle.preempt.specs.Bits.{bitAt}
 use Rattle.preempt.specs.Places.{Without, Shared, Inside}
 use Rattle.stack.specs.Setting.{Ready}
 use Rattle.stack.specs.Paths.{sizeIn, LargestAt, PathFrom, PathSums, PathBound}
@@ -196,7 +195,7 @@ module _ {n : ℕ} {rows sizes order : List ℕ} {cover : ℕ} (ready : Ready n 
       let i : ℕ = getD order k 0 in
       let place : i < n = ready .places k below in
       let sum : ℕ = sizeIn sizes i + r in
-      let same = getD-set-same sums i sum 0 (omega (arith, so-far .room, ready .few)) in
+      let same = getD-set-same sums i sum 0 (omega (arith, so-far .room, ready .arrays .few)) in
       record {
         count = omega arith;
         room = length-set sums i sum ∙ so-far .room;
@@ -214,7 +213,7 @@ module _ {n : ℕ} {rows sizes order : List ℕ} {cover : ℕ} (ready : Ready n 
         light = λ j h g.
             without-outside rest i smaller taken j g
             (λ o. rw (getD-set-other sums i j sum 0 (λ e. never (bitAt rest i) there (rw (sym e) o))) (omega (arith, so-far .light j h o)))
-            (λ e. rw (e, same) (omega (arith, ready .light i place, underway-light so-far below meet largest)));
+            (λ e. rw (e, same) (omega (arith, ready .arrays .light i place, underway-light so-far below meet largest)));
         kept = λ j h. getD-set-other sums i j sum 0 (λ e. never (bitAt cover i) (so-far .inside i there) (rw (sym e) h)) ∙ so-far .kept j h;
       }
 

@@ -5,9 +5,8 @@ use mathlib.Core.Bool.{true, false}
 use mathlib.Core.Path.{_≡_}
 use mathlib.Core.Logic.{_⊎_}
 use lib.ListN.{getD}
-use Rattle.rules.specs.Preempt.{cell}
+use Rattle.rules.specs.Preempt.{cell, bitAt}
 use Rattle.rules.specs.Chains.{weight, Chain, Path, All, Largest}
-use Rattle.preempt.specs.Bits.{bitAt}
 
 -- the size at a place
 abbrev pub sizeIn : List ℕ → ℕ → ℕ

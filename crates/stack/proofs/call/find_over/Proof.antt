@@ -1,11 +1,10 @@
 -- Each figure is what its function promises.
-use Rattle.stack.proofs.Readying.{ready-arrays}
 use borrow.Author.Needs.{needs}
 use Rattle.stack.proofs.call.find_over.Statement.{statement}
 use Rattle.stack.proofs.call.find_over.Tie as tie
 
 heaviest-chain-requires : tie.Need-heaviest-chain-requires
-heaviest-chain-requires c κs = (ready-arrays (c .before .before .before .before .before .before .pre .1 .0), c .before .before .before .before .before .before .pre .1 .1 .0)
+heaviest-chain-requires c κs = (c .before .before .before .before .before .before .pre .1 .0 .arrays, c .before .before .before .before .before .before .pre .1 .1 .0)
 
 path-bound-requires : tie.Need-path-bound-requires
 path-bound-requires c κs = search needs

@@ -41,12 +41,12 @@ two-bytes-requires : tie.Need-two-bytes-requires Inv-loop μ-loop
 two-bytes-requires c κs = search needs
 
 members-requires : tie.Need-members-requires Inv-loop μ-loop
-members-requires c κs = (c .before .before .before .before .before .before .before .before .before .before .pre .1 .0 .few, omega (arith, c .before .before .before .before .before .before .before .before .before .before .pre .1 .0 .few, c .before .before .before .before .before .before .before .before .before .before .pre .1 .1))
+members-requires c κs = (c .before .before .before .before .before .before .before .before .before .before .pre .1 .0 .arrays .few, omega (arith, c .before .before .before .before .before .before .before .before .before .before .pre .1 .0 .arrays .few, c .before .before .before .before .before .before .before .before .before .before .pre .1 .1))
 
 path-sums-requires : tie.Need-path-sums-requires Inv-loop μ-loop
 path-sums-requires c κs =
     let start = c .before .before .before .before .before .before .before .before .before .before .before in
-    (start .pre .1 .0, members-inside (start .args .numbers .now) (start .args .count) (c .before .two-bytes .result) (c .members .result) (start .pre .1 .0 .few) (c .members .ensures))
+    (start .pre .1 .0, members-inside (start .args .numbers .now) (start .args .count) (c .before .two-bytes .result) (c .members .result) (start .pre .1 .0 .arrays .few) (c .members .ensures))
 
 largest-at-requires : tie.Need-largest-at-requires Inv-loop μ-loop
 largest-at-requires c κs = search needs
@@ -68,7 +68,7 @@ next c =
     let number = made .before .before .two-bytes .result in
     let here : number ≡ numberOf (getD (listed (a .image .now)) t []) = made .before .before .two-bytes .ensures .0 ∙ ap numberOf (made .before .before .before .record-at .ensures ∙ transaction-record (a .image .now) (made .before .before .before .before .before .before .before .before .before .before .before .shared-slice-known .given) (start .pre .0) t (inside made)) in
     let within = sums-bound (a .count) (a .rows .now) (a .sizes .now) (made .before .members .result) (made .path-sums .ensures) (c .largest-at .ensures) in
-    let bound = members-own (a .count) (a .rows .now) (a .sizes .now) (a .numbers .now) (listed (a .image .now)) t number (made .before .members .result) (c .largest-at .result) here (start .pre .1 .0 .few) (made .before .members .ensures) within in
+    let bound = members-own (a .count) (a .rows .now) (a .sizes .now) (a .numbers .now) (listed (a .image .now)) t number (made .before .members .result) (c .largest-at .result) here (start .pre .1 .0 .arrays .few) (made .before .members .ensures) within in
     own-more (a .count) (a .rows .now) (a .sizes .now) (a .numbers .now) (listed (a .image .now)) t (made .before .before .before .before .before .loop .total) (c .largest-at .result) (made .before .before .before .before .before .loop .inv .1) bound
 
 add-total : tie.Need-add-total Inv-loop μ-loop

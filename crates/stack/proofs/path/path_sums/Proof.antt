@@ -24,7 +24,7 @@ left c =
 place : (c : tie.After-wide Inv-loop μ-loop) → (c .wide .result < c .before .before .before .before .before .before .before .args .count) × (c .wide .result < 64)
 place c =
     let start = c .before .before .before .before .before .before .before in
-    omega (arith, c .wide .ensures, start .pre .0 .few, start .pre .0 .places (c .before .before .before .loop .k) (left (c .before .before)))
+    omega (arith, c .wide .ensures, start .pre .0 .arrays .few, start .pre .0 .places (c .before .before .before .loop .k) (left (c .before .before)))
 
 loop-holds : tie.Need-loop-holds Inv-loop μ-loop
 loop-holds c =
@@ -32,7 +32,7 @@ loop-holds c =
     underway-none (start .pre .0) (omega (arith, start .good .0)) (start .pre .1)
 
 shared-slice-read-wide : tie.Need-shared-slice-read-wide Inv-loop μ-loop
-shared-slice-read-wide c = omega (arith, left (c .before), c .before .before .before .before .before .before .pre .0 .few, c .before .before .before .before .before .before .pre .0 .order-count)
+shared-slice-read-wide c = omega (arith, left (c .before), c .before .before .before .before .before .before .pre .0 .arrays .few, c .before .before .before .before .before .before .pre .0 .order-count)
 
 wide-requires : tie.Need-wide-requires Inv-loop μ-loop
 wide-requires c κs = search needs
@@ -47,7 +47,7 @@ mul-shared : tie.Need-mul-shared Inv-loop μ-loop
 mul-shared c = omega (arith, place (c .before .before))
 
 shared-slice-read-shared : tie.Need-shared-slice-read-shared Inv-loop μ-loop
-shared-slice-read-shared c = omega (arith, place (c .before .before .before), c .before .before .before .before .before .before .before .before .before .before .pre .0 .row-count)
+shared-slice-read-shared c = omega (arith, place (c .before .before .before), c .before .before .before .before .before .before .before .before .before .before .pre .0 .arrays .row-count)
 
 shared-requires : tie.Need-shared-requires Inv-loop μ-loop
 shared-requires c κs = search needs
@@ -56,7 +56,7 @@ mul-sums : tie.Need-mul-sums Inv-loop μ-loop
 mul-sums c = omega (arith, place (c .before .before .before .before))
 
 shared-slice-read-sums : tie.Need-shared-slice-read-sums Inv-loop μ-loop
-shared-slice-read-sums c = omega (arith, place (c .before .before .before .before .before), c .before .before .before .before .before .before .before .before .before .before .before .before .pre .0 .size-count)
+shared-slice-read-sums c = omega (arith, place (c .before .before .before .before .before), c .before .before .before .before .before .before .before .before .before .before .before .before .pre .0 .arrays .size-count)
 
 largest-at-requires : tie.Need-largest-at-requires Inv-loop μ-loop
 largest-at-requires c κs = search needs
@@ -67,8 +67,8 @@ add-sums c =
     let so-far = c .before .before .before .before .before .before .before .before .before .before .loop .inv in
     omega (
       arith,
-      ready .few,
-      ready .light (c .before .before .before .before .before .before .before .wide .result) (place (c .before .before .before .before .before .before .before) .0),
+      ready .arrays .few,
+      ready .arrays .light (c .before .before .before .before .before .before .before .wide .result) (place (c .before .before .before .before .before .before .before) .0),
       so-far .count,
       underway-light ready so-far (left (c .before .before .before .before .before .before .before .before .before)) (rw (c .before .before .before .before .before .before .before .wide .ensures) at (c .before .before .before .shared .ensures)) (c .largest-at .ensures),
     )
