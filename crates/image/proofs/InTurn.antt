@@ -11,7 +11,7 @@ use lib.Dec.{ltb}
 use Rattle.rules.specs.Blocks.{recordAt, recordCount, records, blockCount}
 use Rattle.rules.specs.Patches.{same}
 use Rattle.rules.proofs.Numbers.{either, length-upTo, getD-upTo}
-use Rattle.image.specs.Met.{past, metAmong}
+use Rattle.image.specs.InTurn.{past, metAmong}
 
 -- a usize holds the number of records of an image whose length it holds
 pub count-fits : (image : List ℕ) → length image < 2 ^ 64 → ((i : ℕ) → getD image i 0 < 256) → recordCount image < 2 ^ 64

@@ -10,12 +10,12 @@ use Rattle.rules.specs.declared.Form.{Form}
 use Rattle.rules.specs.declared.Form.the-variants.{Table, Patch}
 use Rattle.rules.specs.Numbers.{upTo}
 use Rattle.rules.specs.Blocks.{mark, checkOf, withCheck, joined, blockOf}
-use Rattle.rules.specs.Calls.{over}
+use Rattle.rules.specs.Calls.{over, cut, blocksOf}
 use Rattle.rules.proofs.Numbers.{length-upTo, upTo-ext, upTo-step}
 use Rattle.rules.proofs.Image.Parts.{Records, sized-upTo, length-joined, joined-append, joined-parts, part-upTo}
 use Rattle.rules.proofs.Image.Block.{check-front}
 use Rattle.rules.proofs.Image.Written.{recordsOf, length-recordsOf, length-blockOf}
-use Rattle.image.specs.Write.{cut, blocksOf, headerOf, bodyBytes}
+use Rattle.image.specs.Write.{headerOf, bodyBytes}
 
 -- one more byte copied over the start of a list
 pub copied-more : (s d : List ℕ) (k : ℕ) → k < length s → length s ≤ length d

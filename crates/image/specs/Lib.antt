@@ -1,3 +1,3 @@
 pub mod Held
-pub mod Met
+pub mod InTurn
 pub mod Write

@@ -3,7 +3,7 @@ ghost use mathlib.Core.Path.{_≡_};
 ghost use Prim.Native.Nat.{_+_, _<_, _^_};
 ghost use lib.Dec.{leb};
 ghost use Rattle.rules.specs.Blocks.{recordAt, recordCount, records};
-ghost use Rattle.image.specs.Met.{past, metAmong};
+ghost use Rattle.image.specs.InTurn.{past, metAmong};
 use crate::bytes::is_same;
 use crate::records::record_count;
 use crate::records::record_part;
@@ -74,13 +74,6 @@ pub fn past_record<'a, 'b>(reader: Reader<'a>, fields: &'b [u8]) -> Reader<'a>
         image: reader.image,
         next: number_past(reader.image, reader.next, fields),
     }
-}
-
-// The first record of an image, as a part of it; where the image ends before 40 bytes it is shorter or empty.
-pub fn first_record(image: &[u8]) -> &[u8]
-    ensures { λ r. ⌜ now r ≡ recordAt (now (image .entry)) 0 ⌝ }
-{
-    next_record(start(image))
 }
 
 // How many records of the other image, from its first on, are met in turn among the image's records.

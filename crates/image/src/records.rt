@@ -1,6 +1,6 @@
 // Where an image's records stand: one after another, across blocks.
 ghost use mathlib.Core.Path.{_≡_};
-ghost use Prim.Native.Nat.{_+_, _≤_};
+ghost use Prim.Native.Nat.{_+_, _^_, _≤_, _<_};
 ghost use lib.ListN.{length};
 ghost use Rattle.rules.specs.Blocks.{recordStart, recordAt, recordCount};
 use crate::bytes::byte_at;
@@ -19,15 +19,23 @@ pub fn record_count(image: &[u8]) -> usize
     rules::RECORDS_PER_BLOCK * full + held
 }
 
+// Where record k starts: behind the blocks before its own, the block's header and the records before it.
+pub fn record_start(k: usize) -> usize
+    requires { ⌜ recordStart k < 2 ^ 64 ⌝ }
+    ensures { λ r. ⌜ r ≡ recordStart k ⌝ }
+{
+    rules::BLOCK_BYTES * (k / rules::RECORDS_PER_BLOCK)
+        + 8
+        + rules::RECORD_BYTES * (k % rules::RECORDS_PER_BLOCK)
+}
+
 // The 32 bytes of record k, as a part of an image that holds it whole. Their number is known where it is called, so that
 // the fields are read without a test.
 pub fn record_at(image: &[u8], k: usize) -> &[u8]
     requires { ⌜ recordStart k + 32 ≤ length (now image) ⌝ }
     ensures { λ r. ⌜ now r ≡ recordAt (now (image .entry)) k ⌝ }
 {
-    let start = rules::BLOCK_BYTES * (k / rules::RECORDS_PER_BLOCK)
-        + 8
-        + rules::RECORD_BYTES * (k % rules::RECORDS_PER_BLOCK);
+    let start = record_start(k);
     let end = start + rules::RECORD_BYTES;
     &image[start..end]
 }
@@ -37,13 +45,10 @@ pub fn record_part(image: &[u8], k: usize) -> &[u8]
     ensures { λ r. ⌜ now r ≡ recordAt (now (image .entry)) k ⌝ }
 {
     let length = image.len();
-    let block = k / rules::RECORDS_PER_BLOCK;
-    if length / rules::BLOCK_BYTES < block {
+    if length / rules::BLOCK_BYTES < k / rules::RECORDS_PER_BLOCK {
         return &image[length..length];
     }
-    let start = rules::BLOCK_BYTES * block
-        + 8
-        + rules::RECORD_BYTES * (k % rules::RECORDS_PER_BLOCK);
+    let start = record_start(k);
     let from = least(start, length);
     let to = least(start + rules::RECORD_BYTES, length);
     &image[from..to]

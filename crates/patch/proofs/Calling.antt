@@ -14,13 +14,12 @@ use Rattle.rules.specs.declared.Patched.{Patched}
 use Rattle.rules.specs.Blocks.{records, recordAt, imageOf}
 use Rattle.rules.specs.Patches.{outcome, touchedCount, patchedMap}
 use Rattle.rules.specs.Refusals.{accepted, fine, refusal, orElse, tableVerdict, patchVerdict, absentRefusal, broken, outcomeRefusal, shortRefusal}
-use Rattle.rules.specs.Calls.{over, outcomeLength, patchCallVerdict, offending}
+use Rattle.rules.specs.Calls.{over, outcomeLength, patchCallVerdict, patchRefusal, patchAccepted, PatchCall, offending, Offends}
 use Rattle.rules.proofs.Numbers.{either}
 use Rattle.rules.proofs.Refusals.{accepted-first, accepted-second}
 use Rattle.rules.proofs.Image.Written.{length-imageOf, records-imageOf}
 use Rattle.rules.proofs.Patch.Outcome.{outcome-sized, outcome-broken}
 use Rattle.patch.specs.Written.{ImageWritten}
-use Rattle.patch.specs.Call.{refusedPatch, acceptedPatch, PatchCall, Offends}
 
 -- the checks that need no outcome
 abbrev pub bothVerdict : List ℕ → List ℕ → Verdict
@@ -94,12 +93,12 @@ module _ (base patch rows room newRows : List ℕ) where
 
   -- a refusal: its number and place, and nothing written
   pub patch-refused : (v : Verdict) → patchCallVerdict base patch rows room newRows ≡ v → accepted v ≡ false
-      → PatchCall base patch rows room newRows (refusedPatch (v .number) (v .place)) room newRows
+      → PatchCall base patch rows room newRows (patchRefusal v) room newRows
   patch-refused v e h = record { answered = rw (e, h); written = rw (e, h); carried = rw (e, h) }
 
   -- an accepted call: the outcome's image and its map, each over the start of its room
   pub patch-accepted : patchCallVerdict base patch rows room newRows ≡ fine
-      → PatchCall base patch rows room newRows (acceptedPatch (touchedCount (records base) (records patch)) (outcomeLength base patch))
+      → PatchCall base patch rows room newRows (patchAccepted (touchedCount (records base) (records patch)) (outcomeLength base patch))
       (over (imageOf Table (outcome (records base) (records patch))) room) (over (patchedMap (records base) (records patch) rows) newRows)
   patch-accepted e = record { answered = rw e; written = rw e; carried = rw e }
 

@@ -7,17 +7,17 @@ use native.Mathlib.Omega.{arith}
 use lib.ListN.{length, getD}
 use Rattle.rules.specs.Numbers.{some, countTo}
 use Rattle.rules.specs.Records.{tasks, taskCount, taskAt, placeOf}
-use Rattle.rules.specs.Preempt.{mapFrom}
-use Rattle.rules.specs.Patches.{outcome, touched, touchedCount, oldPlace, carried, patchedMap}
+use Rattle.rules.specs.Preempt.{mapFrom, bitAt}
+use Rattle.rules.specs.Patches.{outcome, touched, touchedCount, oldPlace, carried, patchedMap, concerns}
 use Rattle.rules.proofs.Numbers.{sumTo-ext}
 use Rattle.rules.proofs.Maps.{map-ext}
 use Rattle.rules.proofs.Table.Shape.{Shape}
-use Rattle.preempt.specs.Bits.{bitAt, column}
+use Rattle.preempt.specs.Bits.{column}
 use Rattle.preempt.specs.Tasks.{TasksRead, barredMap}
 use Rattle.preempt.specs.declared.tasks.Tasks.{Tasks}
 use Rattle.preempt.proofs.Columns.{column-at}
 use Rattle.preempt.proofs.Reading.{decided-read}
-use Rattle.patch.specs.Touched.{Marks, concernsTask, touchedAt}
+use Rattle.patch.specs.Touched.{Marks, touchedAt}
 use Rattle.patch.specs.Carried.{carriedBy}
 
 -- base and patch, what was read of their outcome, the set of touched tasks and the old places
@@ -43,8 +43,8 @@ module _ (base patch : List (List ℕ)) (t : Tasks) (barred old : List ℕ) (set
   unfolding touched
   touched-read i h =
       marked i h
-      ∙ ap (λ (id : ℕ). some (λ k. concernsTask (getD patch k []) id (getD (t .transactions) i 0)) (length patch)) (id-read i h)
-      ∙ ap (λ (number : ℕ). some (λ k. concernsTask (getD patch k []) (taskAt (outcome base patch) i .id) number) (length patch)) (transaction-read i h)
+      ∙ ap (λ (id : ℕ). some (λ k. concerns (getD patch k []) id (getD (t .transactions) i 0)) (length patch)) (id-read i h)
+      ∙ ap (λ (number : ℕ). some (λ k. concerns (getD patch k []) (taskAt (outcome base patch) i .id) number) (length patch)) (transaction-read i h)
 
   -- so as many are in it as are touched
   pub touched-counted : countTo (bitAt set) (t .count) ≡ touchedCount base patch

@@ -11,7 +11,7 @@ use Rattle.rules.specs.Records.{wayOf}
 use Rattle.rules.specs.Refusals.{accepted, fine, refusal, tableVerdict, patchVerdict, absentRefusal}
 use Rattle.rules.proofs.Refusals.{refuseAt-found, refuseAt-none}
 use Rattle.rules.proofs.Table.Listed.{table-of}
-use Rattle.image.specs.Met.{metAmong}
+use Rattle.image.specs.InTurn.{metAmong}
 use Rattle.patch.proofs.Accepted.{as-many, read-is, base-rises, patch-rises, ways-rise}
 use Rattle.patch.proofs.Meeting.{is-absent, met-absent, met-all}
 

@@ -15,7 +15,7 @@ use Rattle.rules.proofs.Numbers.{either, never, lowest-here, lowest-none}
 use Rattle.rules.proofs.Tests.{both-first, both-second}
 use Rattle.rules.proofs.Table.Order.{Rises}
 use Rattle.rules.proofs.Patch.Members.{same-refl, same-equal, has-at, has-place, has-takenOut}
-use Rattle.image.specs.Met.{past, metAmong}
+use Rattle.image.specs.InTurn.{past, metAmong}
 
 -- one more record of the base is passed
 pub met-step : (bs ps : List (List ℕ)) (n : ℕ) → metAmong bs ps (n + 1) ≡ past ps (getD bs n []) (metAmong bs ps n)

@@ -10,11 +10,10 @@ use Rattle.rules.specs.Numbers.{Bytes}
 use Rattle.rules.specs.Blocks.{records}
 use Rattle.rules.specs.Preempt.{mapOf}
 use Rattle.rules.specs.Refusals.{accepted, tableVerdict}
-use Rattle.rules.specs.Calls.{over, patchCallVerdict, outcomeLength}
+use Rattle.rules.specs.Calls.{over, patchCallVerdict, outcomeLength, PatchCall}
 use Rattle.rules.specs.Runs.{Step, State, called, calls, afreshAfter}
 use Rattle.rules.proofs.Numbers.{either, never}
 use Rattle.rules.proofs.Patch.Run.{demand3}
-use Rattle.patch.specs.Call.{PatchCall}
 
 -- one call: its answer and its rooms meet the promise, and the caller goes on with the first bytes of the room and with
 -- the written map where the number is 0, and with what it had where it is not

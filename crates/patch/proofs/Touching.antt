@@ -11,23 +11,24 @@ use lib.ListN.{getD}
 use Rattle.rules.specs.Numbers.{some}
 use Rattle.rules.specs.Preempt.{rowFrom}
 use Rattle.rules.specs.Records.{kindOf, numberOf, secondOf}
+use Rattle.rules.specs.Patches.{concerns}
 use Rattle.rules.proofs.Numbers.{either, never, lowest-passes, lowest-below, lowest-zero, some-false, some-more}
 use Rattle.rules.proofs.Bits.{bit-none, bit-of-power, bit-or}
 use Rattle.rules.proofs.Maps.{row-at}
 use Rattle.rules.proofs.Tests.{same-tests}
 use Rattle.table.specs.Numbers.{Rising, placeAmong}
-use Rattle.preempt.specs.Bits.{numbered}
-use Rattle.patch.specs.Touched.{Marks, concernsTask}
+use Rattle.preempt.specs.Bits.{hasNumber}
+use Rattle.patch.specs.Touched.{Marks}
 
 -- no place is in the empty set
 pub marks-none : (count : ℕ) (test : ℕ → Bool) → ((i : ℕ) → i < count → test i ≡ false) → Marks count test 0
 marks-none count test none i l = bit-none i ∙ sym (none i l)
 
 -- the places of a number
-pub marks-members : (numbers : List ℕ) (count number set : ℕ) → count ≤ 64 → set ≡ rowFrom count (numbered numbers number) → Marks count (λ i. eqb number (getD numbers i 0)) set
+pub marks-members : (numbers : List ℕ) (count number set : ℕ) → count ≤ 64 → set ≡ rowFrom count (hasNumber numbers number) → Marks count (λ i. eqb number (getD numbers i 0)) set
 marks-members numbers count number set most members i l =
     let here = getD numbers i 0 in
-    rw (members, row-at count (numbered numbers number) i most, lt-ltb i count l)
+    rw (members, row-at count (hasNumber numbers number) i most, lt-ltb i count l)
     (same-tests (eqb here number) (eqb number here)
     (λ t. eq-eqb number here (sym (eqb-true here number t)))
     (λ t. eq-eqb here number (sym (eqb-true number here t))))
@@ -78,17 +79,17 @@ marks-absent ids count x none =
 -- whether a patch record concerns a task, by the record's kind
 module _ (p : List ℕ) (id transaction : ℕ) where
   -- a transaction's record concerns the tasks of the transaction
-  pub concerns-transaction : kindOf p ≡ 1 → eqb (numberOf p) transaction ≡ concernsTask p id transaction
+  pub concerns-transaction : kindOf p ≡ 1 → eqb (numberOf p) transaction ≡ concerns p id transaction
   concerns-transaction kind = rw kind
 
   -- a task's record concerns the task
-  pub concerns-task : kindOf p ≡ 2 → eqb (numberOf p) id ≡ concernsTask p id transaction
+  pub concerns-task : kindOf p ≡ 2 → eqb (numberOf p) id ≡ concerns p id transaction
   concerns-task kind = rw kind (either (eqb (numberOf p) id) (λ t. rw t) (λ t. rw t))
 
   -- a pair concerns the two that it names
-  pub concerns-pair : kindOf p ≡ 3 → (eqb (numberOf p) id || eqb (secondOf p) id) ≡ concernsTask p id transaction
+  pub concerns-pair : kindOf p ≡ 3 → (eqb (numberOf p) id || eqb (secondOf p) id) ≡ concerns p id transaction
   concerns-pair kind = rw kind (either (eqb (numberOf p) id || eqb (secondOf p) id) (λ t. rw t) (λ t. rw t))
 
   -- a record of another kind concerns none
-  pub concerns-none : (kindOf p ≡ 1 → ⊥) → (kindOf p ≡ 2 → ⊥) → (kindOf p ≡ 3 → ⊥) → concernsTask p id transaction ≡ false
+  pub concerns-none : (kindOf p ≡ 1 → ⊥) → (kindOf p ≡ 2 → ⊥) → (kindOf p ≡ 3 → ⊥) → concerns p id transaction ≡ false
   concerns-none first second third = rw (ne-eqb (kindOf p) 1 first, ne-eqb (kindOf p) 2 second, ne-eqb (kindOf p) 3 third)

@@ -11,14 +11,13 @@ use lib.Dec.{leb}
 use Rattle.rules.specs.declared.Form.the-variants.{Table}
 use Rattle.rules.specs.Numbers.{upTo}
 use Rattle.rules.specs.Blocks.{blocksFor, joined, imageOf}
-use Rattle.rules.specs.Calls.{over}
+use Rattle.rules.specs.Calls.{over, cut, writable, writtenLength, writtenRoom}
 use Rattle.rules.specs.Refusals.{accepted, frameVerdict, tableVerdict}
 use Rattle.rules.proofs.Numbers.{either, never, upTo-ext}
 use Rattle.rules.proofs.Image.Parts.{Records, length-joined, part-joined}
 use Rattle.rules.proofs.Image.Written.{length-imageOf}
 use Rattle.rules.proofs.Table.Kinds.{upTo-elements}
 use Rattle.rules.proofs.Patch.Valid.{valid-few, valid-imageOf}
-use Rattle.image.specs.Write.{cut, writable, writtenLength, writtenRoom}
 use Rattle.patch.specs.Written.{ImageWritten}
 
 -- no bytes are no table

@@ -5,9 +5,8 @@ use mathlib.Core.Bool.{Bool, cond, _||_}
 use mathlib.Core.Path.{_≡_}
 use lib.ListN.{getD}
 use Rattle.rules.specs.declared.Task.{Task}
-use Rattle.rules.specs.Preempt.{mayPreempt, cell}
+use Rattle.rules.specs.Preempt.{mayPreempt, cell, bitAt}
 use Rattle.rules.specs.Patches.{touchedCount, patchedMap}
-use Rattle.preempt.specs.Bits.{bitAt}
 use Rattle.preempt.specs.Tasks.{decidedBy}
 use Rattle.preempt.specs.declared.tasks.Tasks.{Tasks}
 use Rattle.patch.specs.declared.carried.Carried.{Carried}

@@ -3,4 +3,3 @@ pub mod Merge
 pub mod Written
 pub mod Touched
 pub mod Carried
-pub mod Call

@@ -6,10 +6,9 @@ ghost use lib.Dec.{ltb};
 ghost use lib.ListN.{length};
 ghost use Rattle.rules.specs.Blocks.{records};
 ghost use Rattle.rules.specs.Patches.{outcome, touchedCount, patchedMap};
-ghost use Rattle.rules.specs.Refusals.{accepted, tableVerdict};
-ghost use Rattle.rules.specs.Calls.{over, patchCallVerdict, patchAnswer, roomAfter, patchedAfter};
+ghost use Rattle.rules.specs.Refusals.{accepted, refusal, tableVerdict};
+ghost use Rattle.rules.specs.Calls.{over, patchRefusal, patchAccepted, PatchCall, Offends};
 ghost use Rattle.image.specs.Held.{HoldsRecords};
-ghost use Rattle.patch.specs.Call.{refusedPatch, acceptedPatch, PatchCall, Offends};
 use crate::absent::verdict_of_both;
 use crate::carried::carry_map;
 use crate::outcome::write_outcome;
@@ -21,7 +20,7 @@ use table::table_verdict;
 
 // A refused call: number and place, and all else 0.
 fn refused(number: u32, place: u32) -> Patched
-    ensures { λ r. ⌜ r ≡ refusedPatch number place ⌝ }
+    ensures { λ r. ⌜ r ≡ patchRefusal (refusal number place) ⌝ }
 {
     Patched {
         number,
@@ -64,7 +63,7 @@ fn write_rooms(
     requires { ⌜ records (now image) ≡ outcome (records (now base)) (records (now patch)) ⌝ }
     requires { ⌜ (length (now image) ≤ length (now room)) × (64 ≤ length (now carried)) ⌝ }
     requires { ⌜ HoldsRecords (now patch) ⌝ }
-    ensures { λ r. ⌜ r ≡ acceptedPatch (touchedCount (records (now (base .entry))) (records (now (patch .entry)))) (length (now (image .entry))) ⌝ }
+    ensures { λ r. ⌜ r ≡ patchAccepted (touchedCount (records (now (base .entry))) (records (now (patch .entry)))) (length (now (image .entry))) ⌝ }
     ensures { λ _. ⌜ now (room .exit) ≡ over (now (image .entry)) (now (room .entry)) ⌝ }
     ensures { λ _. ⌜ now (carried .exit) ≡ over (patchedMap (records (now (base .entry))) (records (now (patch .entry))) (now (map .entry))) (now (carried .entry)) ⌝ }
 {
@@ -116,9 +115,7 @@ pub fn apply_patch(
     room: &mut [u8],
     carried: &mut [u64],
 ) -> Patched
-    ensures { λ r. ⌜ r ≡ patchAnswer (patchCallVerdict (now (base .entry)) (now (patch .entry)) (now (map .entry)) (now (room .entry)) (now (carried .entry))) (now (base .entry)) (now (patch .entry)) ⌝ }
-    ensures { λ _. ⌜ now (room .exit) ≡ roomAfter (patchCallVerdict (now (base .entry)) (now (patch .entry)) (now (map .entry)) (now (room .entry)) (now (carried .entry))) (now (base .entry)) (now (patch .entry)) (now (room .entry)) ⌝ }
-    ensures { λ _. ⌜ now (carried .exit) ≡ patchedAfter (patchCallVerdict (now (base .entry)) (now (patch .entry)) (now (map .entry)) (now (room .entry)) (now (carried .entry))) (now (base .entry)) (now (patch .entry)) (now (map .entry)) (now (carried .entry)) ⌝ }
+    ensures { λ r. ⌜ PatchCall (now (base .entry)) (now (patch .entry)) (now (map .entry)) (now (room .entry)) (now (carried .entry)) r (now (room .exit)) (now (carried .exit)) ⌝ }
 {
     let mut space = image_space();
     apply_in(base, patch, map, room, carried, &mut space)

@@ -5,10 +5,11 @@ ghost use lib.Dec.{eqb};
 ghost use lib.ListN.{length, getD};
 ghost use Rattle.rules.specs.Numbers.{countTo};
 ghost use Rattle.rules.specs.Blocks.{records};
+ghost use Rattle.rules.specs.Patches.{concerns};
+ghost use Rattle.rules.specs.Preempt.{bitAt};
 ghost use Rattle.table.specs.Numbers.{Rising};
 ghost use Rattle.image.specs.Held.{HoldsRecords};
-ghost use Rattle.preempt.specs.Bits.{bitAt};
-ghost use Rattle.patch.specs.Touched.{Marks, concernsTask, touchedAt};
+ghost use Rattle.patch.specs.Touched.{Marks, touchedAt};
 use image::bytes::byte_at;
 use image::bytes::two_bytes;
 use image::records::record_at;
@@ -36,7 +37,7 @@ fn task_with(ids: &[u32], count: usize, id: u32) -> u64
 fn concerned(ids: &[u32], transactions: &[u32], count: usize, fields: &[u8]) -> u64
     requires { ⌜ (count ≤ 64) × ((count ≤ length (now ids)) × (count ≤ length (now transactions))) ⌝ }
     requires { ⌜ Rising (now ids) count ⌝ }
-    ensures { λ r. ⌜ Marks count (λ i. concernsTask (now (fields .entry)) (getD (now (ids .entry)) i 0) (getD (now (transactions .entry)) i 0)) r ⌝ }
+    ensures { λ r. ⌜ Marks count (λ i. concerns (now (fields .entry)) (getD (now (ids .entry)) i 0) (getD (now (transactions .entry)) i 0)) r ⌝ }
 {
     let kind = byte_at(fields, 0);
     let number = two_bytes(fields, 2);

@@ -10,12 +10,12 @@ use lib.Dec.{ltb, eqb}
 use lib.ListN.{getD, set, replicate}
 use lib.Pow.{pow-lt}
 use Rattle.rules.specs.declared.Task.{Task}
-use Rattle.rules.specs.Preempt.{reason, mayPreempt, rowFrom, mapFrom}
+use Rattle.rules.specs.Preempt.{reason, mayPreempt, rowFrom, mapFrom, bitAt}
 use Rattle.rules.proofs.Numbers.{either, sumTo-ext}
 use Rattle.rules.proofs.Bits.{bit-of-power, bit-or, bits-at, bits-small, bits-none, bits-made}
 use Rattle.rules.proofs.Maps.{rowTest, map-row, row-ext, map-ext}
 use Rattle.preempt.specs.declared.tasks.Tasks.{Tasks}
-use Rattle.preempt.specs.Bits.{bitAt, column, marked, withPair}
+use Rattle.preempt.specs.Bits.{column, marked, withPair}
 use Rattle.preempt.specs.Tasks.{lowerAt, upperAt, decidedBy}
 use Rattle.preempt.proofs.Columns.{column-zero, column-set}
 

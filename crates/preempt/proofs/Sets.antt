@@ -9,10 +9,10 @@ use lib.Dec.{eqb, ltb}
 use lib.Pow.{pow-pos}
 use lib.Bits.{bitOr, bitAnd, and-step, and-le-l}
 use lib.Count.{trailingZeros}
+use Rattle.rules.specs.Preempt.{bitAt}
 use Rattle.rules.proofs.Numbers.{either, never}
 use Rattle.rules.proofs.Tests.{both-first, both-second}
 use Rattle.rules.proofs.Bits.{bit-shift, bit-none, bit-and, bit-or, bit-of-power, bit-enough, bit-taken}
-use Rattle.preempt.specs.Bits.{bitAt}
 use Rattle.preempt.specs.Places.{Lowest, Without, Shared, Outside, Below}
 
 -- a number is its bits

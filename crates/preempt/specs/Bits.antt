@@ -1,5 +1,5 @@
--- Single bits of a number, and columns of numbers by place.
-use Prim.Native.Nat.{ℕ, _/_, _%_, _^_}
+-- Rows of bits, and columns of numbers by place.
+use Prim.Native.Nat.{ℕ, _^_}
 use mathlib.Core.List.{List}
 use mathlib.Core.Bool.{Bool, cond}
 use lib.Bits.{bitOr}
@@ -7,13 +7,9 @@ use lib.Dec.{ltb, eqb}
 use lib.ListN.{getD, set}
 use Rattle.rules.specs.Numbers.{upTo}
 
--- bit j, counted from the lowest; of a set of places, whether place j is in it
-abbrev pub bitAt : ℕ → ℕ → Bool
-bitAt n j = eqb (n / 2 ^ j % 2) 1
-
 -- the place's number is this one
-abbrev pub numbered : List ℕ → ℕ → ℕ → Bool
-numbered numbers number j = eqb (getD numbers j 0) number
+abbrev pub hasNumber : List ℕ → ℕ → ℕ → Bool
+hasNumber numbers number j = eqb (getD numbers j 0) number
 
 -- 64 numbers: f 0, .., f (n - 1), and 0 beyond
 unfoldable pub column : ℕ → (ℕ → ℕ) → List ℕ

@@ -3,7 +3,7 @@ use Prim.Native.Nat.{ℕ, _≤_, _<_}
 use mathlib.Core.Bool.{true, _&&_, not}
 use mathlib.Core.Path.{_≡_}
 use lib.Dec.{eqb, ltb}
-use Rattle.preempt.specs.Bits.{bitAt}
+use Rattle.rules.specs.Preempt.{bitAt}
 
 -- place i is in the set, and no lower place is
 pub record Lowest (set i : ℕ) : Type 0 where

@@ -4,8 +4,8 @@ ghost use mathlib.Core.Bool.{cond};
 ghost use Prim.Native.Nat.{_^_, _≤_, _<_};
 ghost use lib.Bits.{bitOr};
 ghost use lib.ListN.{length};
-ghost use Rattle.rules.specs.Preempt.{rowFrom};
-ghost use Rattle.preempt.specs.Bits.{bitAt, numbered};
+ghost use Rattle.rules.specs.Preempt.{rowFrom, bitAt};
+ghost use Rattle.preempt.specs.Bits.{hasNumber};
 
 // The number with one bit set.
 pub fn power(j: usize) -> u64
@@ -52,7 +52,7 @@ pub fn union(a: u64, b: u64) -> u64
 // The places below count whose number is this one.
 pub fn members(numbers: &[u32], count: usize, number: u32) -> u64
     requires { ⌜ (count ≤ 64) × (count ≤ length (now numbers)) ⌝ }
-    ensures { λ r. ⌜ r ≡ rowFrom count (numbered (now (numbers .entry)) number) ⌝ }
+    ensures { λ r. ⌜ r ≡ rowFrom count (hasNumber (now (numbers .entry)) number) ⌝ }
 {
     let mut set: u64 = 0;
     let mut place: usize = 0;

@@ -3,7 +3,7 @@
 ghost use mathlib.Core.Path.{_≡_};
 ghost use mathlib.Core.Bool.{true};
 ghost use Prim.Native.Nat.{_≤_, _<_};
-ghost use Rattle.preempt.specs.Bits.{bitAt};
+ghost use Rattle.rules.specs.Preempt.{bitAt};
 ghost use Rattle.preempt.specs.Places.{Lowest, Without, Shared, Outside, Below};
 
 // A place, as a number to index with.

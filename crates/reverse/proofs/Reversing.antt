@@ -13,14 +13,13 @@ use Rattle.rules.specs.Numbers.{Bytes, lowest}
 use Rattle.rules.specs.Blocks.{records, recordCount, blocksFor, joined}
 use Rattle.rules.specs.Patches.{reversed}
 use Rattle.rules.specs.Refusals.{accepted, patchVerdict}
-use Rattle.rules.specs.Calls.{over, reverseOf}
+use Rattle.rules.specs.Calls.{over, writable, writtenLength, writtenRoom, reverseOf}
 use Rattle.rules.proofs.Numbers.{lowest-le}
 use Rattle.rules.proofs.Image.Frame.{frame-of, frame-accepted, records-fit}
 use Rattle.rules.proofs.Image.Parts.{Records, length-joined}
 use Rattle.rules.proofs.Image.Written.{length-imageOf}
 use Rattle.rules.proofs.Patch.WellFormed.{well-formed-of}
 use Rattle.rules.proofs.Patch.Reversed.{reversed-at, reversed-sized, reverse-count, reverse-length}
-use Rattle.image.specs.Write.{writable, writtenLength, writtenRoom}
 use Rattle.patch.specs.Parts.{isPutIn}
 use Rattle.patch.proofs.Accepted.{as-many, first-in, puts-from, takes-below}
 use Rattle.patch.proofs.Writing.{count-joined, cut-joined}

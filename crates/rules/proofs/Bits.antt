@@ -9,11 +9,8 @@ use lib.Bits.{bitOr, bitAnd, or-shr, or-step, and-shr, and-step}
 use lib.Pow.{pow-pos, pow-mono, pow-add, pow-lt, high, shr-shr, shl-exact}
 use lib.Dec.{ltb, eqb}
 use Rattle.rules.specs.Numbers.{sumTo}
+use Rattle.rules.specs.Preempt.{bitAt}
 use Rattle.rules.proofs.Numbers.{either, sumTo-step, sumTo-zero, sumTo-ext}
-
--- bit j, counted from the lowest
-abbrev pub bitAt : ℕ → ℕ → Bool
-bitAt n j = eqb (n / 2 ^ j % 2) 1
 
 -- the number whose bits below n are set where the test passes
 abbrev pub bitsTo : (ℕ → Bool) → ℕ → ℕ

@@ -1,15 +1,15 @@
 -- Laws of maps: their cells are the test that they are made from, because each row is made of its bits.
 use Prim.Native.Nat.{ℕ, _^_, _≤_, _<_}
-use mathlib.Core.Bool.{Bool, false, cond, _&&_}
+use mathlib.Core.Bool.{Bool, cond, _&&_}
 use mathlib.Core.Path.{_≡_, ap, _∙_}
 use native.Mathlib.Omega.{arith}
 use borrow.Author.Tests.{lt-ltb, le-ltb, ltb-true, ltb-false}
 use lib.Dec.{ltb}
-use lib.ListN.{length, getD, List·getD-eq-default}
+use lib.ListN.{length, getD}
 use lib.Pow.{pow-mono}
-use Rattle.rules.specs.Preempt.{cell, rowFrom, mapFrom}
+use Rattle.rules.specs.Preempt.{cell, rowFrom, mapFrom, bitAt}
 use Rattle.rules.proofs.Numbers.{either, length-upTo, getD-upTo, upTo-ext, sumTo-ext}
-use Rattle.rules.proofs.Bits.{bitAt, bit-lacks, bits-at, bits-small}
+use Rattle.rules.proofs.Bits.{bit-lacks, bits-at, bits-small}
 
 -- the bits of a row
 abbrev pub rowTest : ℕ → (ℕ → Bool) → ℕ → Bool
@@ -42,21 +42,6 @@ cell-of-map n test i j most h l =
     ap (λ (row : ℕ). bitAt row j) (map-row n test i most h)
     ∙ row-at n (test i) j most
     ∙ rw (lt-ltb j n l)
-
--- rows beyond the tasks are 0, and so are cells beyond them
-pub row-beyond : (n : ℕ) (test : ℕ → ℕ → Bool) (i : ℕ) → n ≤ i → getD (mapFrom n test) i 0 ≡ 0
-unfolding mapFrom
-row-beyond n test i past =
-    either (ltb i 64)
-    (λ t.
-    getD-upTo (λ i. cond (ltb i n) (rowFrom n (test i)) 0) 64 i 0 (ltb-true i 64 t) ∙ rw (le-ltb i n past))
-    (λ t. List·getD-eq-default (mapFrom n test) 0 (omega (arith, map-length n test, ltb-false i 64 t)))
-
-pub cell-beyond : (n : ℕ) (test : ℕ → ℕ → Bool) (i j : ℕ) → n ≤ 64 → i < n → n ≤ j → cell (mapFrom n test) i j ≡ false
-cell-beyond n test i j most h past =
-    ap (λ (row : ℕ). bitAt row j) (map-row n test i most h)
-    ∙ row-at n (test i) j most
-    ∙ rw (le-ltb j n past)
 
 -- rows from tests that agree below n are equal, and so are maps
 pub row-ext : (n : ℕ) (test other : ℕ → Bool) → ((j : ℕ) → j < n → test j ≡ other j) → rowFrom n test ≡ rowFrom n other

@@ -1,17 +1,20 @@
 -- What each call returns, and what each lent buffer holds afterwards, for every input.
-use Prim.Native.Nat.{ℕ, _*_}
+use Prim.Native.Nat.{ℕ, _+_, _*_, _/_, _%_, _≤_}
 use mathlib.Core.List.{List, [], _++_}
-use mathlib.Core.Bool.{true, false, cond, _||_, not}
+use mathlib.Core.Bool.{Bool, true, false, cond, _&&_, _||_, not}
 use mathlib.Core.Path.{_≡_}
-use lib.ListN.{length, drop}
-use lib.Dec.{ltb, eqb}
+use lib.ListN.{length, take, drop}
+use lib.Dec.{leb, ltb, eqb}
+use Rattle.rules.specs.declared.Form.{Form}
 use Rattle.rules.specs.declared.Form.the-variants.{Table, Patch}
 use Rattle.rules.specs.declared.Verdict.{Verdict}
 use Rattle.rules.specs.declared.Bounds.{Bounds}
 use Rattle.rules.specs.declared.Patched.{Patched}
+use Rattle.rules.specs.declared.Offending.{Offending}
 use Rattle.rules.specs.declared.Reasoned.{Reasoned}
 use Rattle.rules.specs.declared.Reversed.{Reversed}
-use Rattle.rules.specs.Blocks.{records, recordAt, blocksFor, imageOf}
+use Rattle.rules.specs.Numbers.{upTo}
+use Rattle.rules.specs.Blocks.{mostBlocks, records, recordStart, recordAt, blocksFor, imageOf}
 use Rattle.rules.specs.Records.{tasks, taskCount, placeOf, listed}
 use Rattle.rules.specs.Reasons.{told}
 use Rattle.rules.specs.Preempt.{reasonAt, mapOf}
@@ -26,6 +29,27 @@ over values buffer = values ++ drop (length values) buffer
 -- what a buffer holds after a call: written where the verdict accepts, as it was where it refuses
 abbrev pub after : Verdict → List ℕ → List ℕ → List ℕ
 after v values buffer = cond (accepted v) (over values buffer) buffer
+
+-- an image is written from records that lie one after another in a list of bytes, 32 bytes each
+abbrev pub cut : List ℕ → List (List ℕ)
+cut flat = upTo (λ k. take 32 (drop (32 * k) flat)) (length flat / 32)
+
+-- how many blocks the records fill
+abbrev pub blocksOf : List ℕ → ℕ
+blocksOf flat = blocksFor (length flat / 32)
+
+-- the bytes are whole records, the form may have that many blocks, and the room holds them
+unfoldable pub writable : Form → List ℕ → List ℕ → Bool
+writable form flat room =
+    eqb (length flat % 32) 0 && (leb (blocksOf flat) (mostBlocks form) && leb (512 * blocksOf flat) (length room))
+
+-- the length of the image that is written, or 0 where none is
+abbrev pub writtenLength : Form → List ℕ → List ℕ → ℕ
+writtenLength form flat room = cond (writable form flat room) (512 * blocksOf flat) 0
+
+-- the room afterwards: the image at its start and the rest as it was, or all as it was where none is written
+abbrev pub writtenRoom : Form → List ℕ → List ℕ → List ℕ
+writtenRoom form flat room = cond (writable form flat room) (over (imageOf form (cut flat)) room) room
 
 -- map calls answer 1-8, 11
 unfoldable pub mapVerdict : List ℕ → List ℕ → Verdict
@@ -107,17 +131,18 @@ patchCallVerdict base patch rows room newRows =
     (orElse (outcomeRefusal (records base) (records patch))
     (shortRefusal (ltb (length rows) 64 || (ltb (length newRows) 64 || ltb (length room) (outcomeLength base patch)))))))
 
+abbrev pub patchRefusal : Verdict → Patched
+patchRefusal v = record { number = v .number; place = v .place; touched = 0; length = 0 }
+
+abbrev pub patchAccepted : ℕ → ℕ → Patched
+patchAccepted tasks bytes = record { number = 0; place = 0; touched = tasks; length = bytes }
+
 -- the number of touched tasks and the outcome's length in bytes are returned
 abbrev pub patchAnswer : Verdict → List ℕ → List ℕ → Patched
 patchAnswer v base patch =
     cond (accepted v)
-    (record {
-      number = 0;
-      place = 0;
-      touched = touchedCount (records base) (records patch);
-      length = outcomeLength base patch;
-    })
-    (record { number = v .number; place = v .place; touched = 0; length = 0 })
+    (patchAccepted (touchedCount (records base) (records patch)) (outcomeLength base patch))
+    (patchRefusal v)
 
 -- the room for the image and the room for the map afterwards
 abbrev pub roomAfter : Verdict → List ℕ → List ℕ → List ℕ → List ℕ
@@ -126,9 +151,33 @@ roomAfter v base patch room = after v (imageOf Table (outcome (records base) (re
 abbrev pub patchedAfter : Verdict → List ℕ → List ℕ → List ℕ → List ℕ → List ℕ
 patchedAfter v base patch rows newRows = after v (patchedMap (records base) (records patch) rows) newRows
 
+-- a patch call: its answer, and the two rooms afterwards
+pub record PatchCall (base patch rows room newRows : List ℕ) (answer : Patched) (image map : List ℕ) : Type 0 where
+  pub answered : answer ≡ patchAnswer (patchCallVerdict base patch rows room newRows) base patch
+  pub written : image ≡ roomAfter (patchCallVerdict base patch rows room newRows) base patch room
+  pub carried : map ≡ patchedAfter (patchCallVerdict base patch rows room newRows) base patch rows newRows
+
 -- with refusal 9 the offending 32 bytes of the patch image, in every other case none
 abbrev pub offending : Verdict → List ℕ → List ℕ
 offending v patch = cond (eqb (v .number) 9) (recordAt patch (v .place)) []
+
+-- the offending part, whatever maps and rooms are lent to the call
+abbrev pub Offends : List ℕ → List ℕ → List ℕ → Type 0
+Offends base patch part =
+    (rows room newRows : List ℕ) → part ≡ offending (patchCallVerdict base patch rows room newRows) patch
+
+-- with refusal 9 where the record at its place starts, and 32; in every other case 0 and 0
+abbrev pub standsAt : Verdict → Offending
+standsAt v =
+    cond (eqb (v .number) 9) (record { at = recordStart (v .place); length = 32 }) (record { at = 0; length = 0 })
+
+-- whatever maps and rooms are lent to the call: the answer is that, the bytes there are the offending part, and they lie in
+-- the patch image
+pub record OffendsAt (base patch : List ℕ) (answer : Offending) : Type 0 where
+  pub stands : (rows room newRows : List ℕ) → answer ≡ standsAt (patchCallVerdict base patch rows room newRows)
+  pub part :
+      (rows room newRows : List ℕ) → take (answer .length) (drop (answer .at) patch) ≡ offending (patchCallVerdict base patch rows room newRows) patch
+  pub inside : answer .at + answer .length ≤ length patch
 
 -- a reverse call answers 21-27, then 11: the room must hold as many bytes as the patch
 unfoldable pub reverseVerdict : List ℕ → List ℕ → Verdict

@@ -54,17 +54,18 @@ withWay way (r ∷ rs) = set r 31 way ∷ withWay way rs
 abbrev pub reversed : List (List ℕ) → List (List ℕ)
 reversed patch = putIn patch ++ withWay 1 (takenOut patch)
 
--- the patch record is this task's record, names it in a pair, or is its transaction's record
-abbrev pub concerns : List ℕ → List ℕ → Bool
-concerns p task =
-    (eqb (kindOf p) 2 && eqb (numberOf p) (numberOf task))
-    || ((eqb (kindOf p) 3 && (eqb (numberOf p) (numberOf task) || eqb (secondOf p) (numberOf task)))
-    || (eqb (kindOf p) 1 && eqb (numberOf p) (secondOf task)))
+-- the patch record is the record of the task with this id, names it in a pair, or is the record of its transaction
+abbrev pub concerns : List ℕ → ℕ → ℕ → Bool
+concerns p id transaction =
+    (eqb (kindOf p) 2 && eqb (numberOf p) id)
+    || ((eqb (kindOf p) 3 && (eqb (numberOf p) id || eqb (secondOf p) id))
+    || (eqb (kindOf p) 1 && eqb (numberOf p) transaction))
 
 -- the task at place i of the outcome is touched
 unfoldable pub touched : List (List ℕ) → List (List ℕ) → ℕ → Bool
 touched base patch i =
-    some (λ k. concerns (getD patch k []) (getD (tasks (outcome base patch)) i [])) (length patch)
+    let task = taskAt (outcome base patch) i in
+    some (λ k. concerns (getD patch k []) (task .id) (task .transaction)) (length patch)
 
 abbrev pub touchedCount : List (List ℕ) → List (List ℕ) → ℕ
 touchedCount base patch = countTo (touched base patch) (taskCount (outcome base patch))

@@ -69,9 +69,13 @@ unfoldable pub decided : List (List ℕ) → ℕ → ℕ → Bool
 decided rs i j =
     mayPreempt (periodAt rs i) (barred rs (taskAt rs i .id) (taskAt rs j .id)) (taskAt rs i) (taskAt rs j)
 
--- cell j of row i, bit j counted from the lowest
+-- bit j of a number, counted from the lowest; of a set of places, whether place j is in it
+abbrev pub bitAt : ℕ → ℕ → Bool
+bitAt n j = eqb (n / 2 ^ j % 2) 1
+
+-- cell j of row i
 abbrev pub cell : List ℕ → ℕ → ℕ → Bool
-cell rows i j = eqb (getD rows i 0 / 2 ^ j % 2) 1
+cell rows i j = bitAt (getD rows i 0) j
 
 -- 64 rows of 64 cells for n tasks; rows and cells at or beyond the number of tasks are 0
 abbrev pub rowFrom : ℕ → (ℕ → Bool) → ℕ

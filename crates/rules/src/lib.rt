@@ -74,6 +74,13 @@ pub struct Patched {
     pub length: u32,
 }
 
+// Where the offending part stands in a patch image, in bytes: 0 and 0 where nothing offends.
+#[repr(C)]
+pub struct Offending {
+    pub at: u64,
+    pub length: u64,
+}
+
 // What a reason call returns. A refused call has number and place, and reason 0.
 #[repr(C)]
 pub struct Reasoned {

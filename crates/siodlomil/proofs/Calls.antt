@@ -1,17 +1,16 @@
 -- What fixes each answer of the C interface. The map call promises what `map-determined` of `preempt` asks, the bound call what
--- `bound-call-determined` of `rules` asks, the patch call the three fields of `patch-determined` of `patch`, and the reverse call
--- what `reverse-determined` of `reverse` asks. Where the offending part stands is fixed here.
+-- `bound-call-determined` of `rules` asks, the patch call what `patch-determined` of `patch` asks, and the reverse call what
+-- `reverse-determined` of `reverse` asks. Where the offending part stands is fixed here.
 use Prim.Native.Nat.{ℕ}
 use mathlib.Core.List.{List, []}
 use mathlib.Core.Path.{_≡_, ap, sym, _∙_}
 use native.Mathlib.Omega.{arith}
 use borrow.Author.Tests.{eq-eqb, ne-eqb}
 use Rattle.rules.specs.declared.Verdict.{Verdict}
+use Rattle.rules.specs.declared.Offending.{Offending}
 use Rattle.rules.specs.Blocks.{recordStart}
-use Rattle.rules.specs.Calls.{patchCallVerdict}
+use Rattle.rules.specs.Calls.{patchCallVerdict, standsAt, OffendsAt}
 use Rattle.patch.proofs.Calling.{bothVerdict, only-nine, offending-number}
-use Rattle.siodlomil.specs.declared.Offending.{Offending}
-use Rattle.siodlomil.specs.Standing.{standsAt, OffendsAt}
 use Rattle.siodlomil.proofs.Nine.{nine-inside}
 
 -- two answers that meet the promise are equal

@@ -1,25 +1,19 @@
 // The C interface: the calls of the library under names that C can link. Each lent slice is a pointer and its length.
 ghost use mathlib.Core.Path.{_≡_};
-ghost use Rattle.rules.specs.Calls.{mapVerdict, mapAfter, BoundCall, reasonAnswer, patchCallVerdict, patchAnswer, roomAfter, patchedAfter, reverseAnswer, reverseAfter};
-ghost use Rattle.siodlomil.specs.Standing.{OffendsAt};
+ghost use Rattle.rules.specs.Calls.{mapVerdict, mapAfter, BoundCall, reasonAnswer, PatchCall, OffendsAt, reverseAnswer, reverseAfter};
+use image::records::record_start;
 use patch::absent::verdict_of_both;
 use patch::call::apply_patch;
 use preempt::map::fill_map;
 use reason::call::find_reason;
 use reverse::call::reverse_patch;
 use rules::Bounds;
+use rules::Offending;
 use rules::Patched;
 use rules::Reasoned;
 use rules::Reversed;
 use rules::Verdict;
 use stack::call::find_bounds;
-
-// Where the offending part stands in a patch image, in bytes: 0 and 0 where nothing offends.
-#[repr(C)]
-pub struct Offending {
-    pub at: u64,
-    pub length: u64,
-}
 
 // Fills a lent map from a table image. A refusal answers its number and place, and writes nothing.
 #[no_mangle]
@@ -58,9 +52,7 @@ pub extern "C" fn siodlomil_patch(
     room: &mut [u8],
     carried: &mut [u64],
 ) -> Patched
-    ensures { λ r. ⌜ r ≡ patchAnswer (patchCallVerdict (now (base .entry)) (now (patch .entry)) (now (map .entry)) (now (room .entry)) (now (carried .entry))) (now (base .entry)) (now (patch .entry)) ⌝ }
-    ensures { λ _. ⌜ now (room .exit) ≡ roomAfter (patchCallVerdict (now (base .entry)) (now (patch .entry)) (now (map .entry)) (now (room .entry)) (now (carried .entry))) (now (base .entry)) (now (patch .entry)) (now (room .entry)) ⌝ }
-    ensures { λ _. ⌜ now (carried .exit) ≡ patchedAfter (patchCallVerdict (now (base .entry)) (now (patch .entry)) (now (map .entry)) (now (room .entry)) (now (carried .entry))) (now (base .entry)) (now (patch .entry)) (now (map .entry)) (now (carried .entry)) ⌝ }
+    ensures { λ r. ⌜ PatchCall (now (base .entry)) (now (patch .entry)) (now (map .entry)) (now (room .entry)) (now (carried .entry)) r (now (room .exit)) (now (carried .exit)) ⌝ }
 {
     apply_patch(base, patch, map, room, carried)
 }
@@ -84,9 +76,9 @@ pub extern "C" fn siodlomil_offending(base: &[u8], patch: &[u8]) -> Offending
     if verdict.number != 9 {
         return Offending { at: 0, length: 0 };
     }
-    let place = verdict.place as u64;
+    let place = verdict.place as usize;
     Offending {
-        at: 512 * (place / 15) + 8 + 32 * (place % 15),
+        at: record_start(place) as u64,
         length: 32,
     }
 }

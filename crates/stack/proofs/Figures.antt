@@ -9,7 +9,7 @@ use lib.Dec.{ltb, eqb}
 use Rattle.rules.proofs.Tests.{T-true, true-T}
 use Rattle.rules.specs.Records.{numberOf, transactions, taskCount, taskAt}
 use Rattle.rules.specs.Numbers.{sumTo, largestTo}
-use Rattle.rules.specs.Preempt.{cell}
+use Rattle.rules.specs.Preempt.{cell, bitAt}
 use Rattle.rules.proofs.Table.Shape.{Shape}
 use Rattle.preempt.specs.declared.tasks.Tasks.{Tasks}
 use Rattle.preempt.specs.Tasks.{TasksRead}
@@ -20,7 +20,6 @@ use Rattle.stack.specs.Figures.{ownTask, OwnPaths, figuresIn, FoundOver,
 use Rattle.stack.proofs.Columns.{field-total}
 use Rattle.rules.specs.Chains.{weight, Chain, Path, All, Before, Largest, Heaviest, related, sizeAt, idAt, priorityAt, inTransaction, TransactionBound, levelBound}
 use Rattle.rules.specs.Chains.Before.{less, later, shorter}
-use Rattle.preempt.specs.Bits.{bitAt}
 use Rattle.preempt.specs.Places.{Below}
 
 -- every place of the list is below n

@@ -9,14 +9,14 @@ use lib.ListN.{length, getD}
 use lib.Dec.{T, ltb, eqb}
 use Rattle.rules.specs.Numbers.{sumTo, lowest}
 use Rattle.rules.specs.Records.{numberOf}
-use Rattle.rules.specs.Preempt.{cell, rowFrom}
+use Rattle.rules.specs.Preempt.{cell, rowFrom, bitAt}
 use Rattle.rules.specs.Chains.{weight, Path, All, Largest}
 use Rattle.rules.proofs.Numbers.{either, lowest-passes, some-true, sumTo-zero, sumTo-step, sumTo-ext}
 use Rattle.rules.proofs.Tests.{both-first}
 use Rattle.rules.proofs.Maps.{row-at}
 use Rattle.rules.proofs.Table.Order.{Rises, one-with}
 use Rattle.rules.proofs.FourBounds.Total.{total-within, own-paths≤total}
-use Rattle.preempt.specs.Bits.{bitAt, numbered}
+use Rattle.preempt.specs.Bits.{hasNumber}
 use Rattle.preempt.specs.Places.{Inside}
 use Rattle.stack.specs.Setting.{Ready}
 use Rattle.stack.specs.Paths.{sizeIn, PathBound}
@@ -24,17 +24,17 @@ use Rattle.stack.specs.Figures.{ownTask, OwnPaths}
 use Rattle.stack.proofs.Figures.{largest-as}
 
 -- members of a number are places below the count
-pub members-inside : (numbers : List ℕ) (count number set : ℕ) → count ≤ 64 → set ≡ rowFrom count (numbered numbers number) → Inside count set
+pub members-inside : (numbers : List ℕ) (count number set : ℕ) → count ≤ 64 → set ≡ rowFrom count (hasNumber numbers number) → Inside count set
 members-inside numbers count number set most members j h =
-    ltb-true j count (both-first (ltb j count) (numbered numbers number j) (sym (row-at count (numbered numbers number) j most) ∙ rw members at h))
+    ltb-true j count (both-first (ltb j count) (hasNumber numbers number j) (sym (row-at count (hasNumber numbers number) j most) ∙ rw members at h))
 
 -- the path bound inside a transaction's members is that of its own tasks
 pub members-own : (n : ℕ) (rows sizes numbers : List ℕ) (listed : List (List ℕ)) (t number set r : ℕ) → number ≡ numberOf (getD listed t [])
-    → n ≤ 64 → set ≡ rowFrom n (numbered numbers number) → PathBound n rows sizes set r
+    → n ≤ 64 → set ≡ rowFrom n (hasNumber numbers number) → PathBound n rows sizes set r
     → Largest (λ c. Path n (cell rows) c × All (ownTask numbers listed t) c) (weight (sizeIn sizes)) r
 members-own n rows sizes numbers listed t number set r here most members bound =
     largest-as n (cell rows) (bitAt set) (ownTask numbers listed t) (sizeIn sizes) r
-    (λ i h. rw (members, row-at n (numbered numbers number) i most, lt-ltb i n h, here)) bound
+    (λ i h. rw (members, row-at n (hasNumber numbers number) i most, lt-ltb i n h, here)) bound
 
 module _ (n : ℕ) (rows sizes numbers : List ℕ) (listed : List (List ℕ)) where
   pub own-none : OwnPaths n rows sizes numbers listed 0 0
@@ -93,5 +93,5 @@ module _ {n : ℕ} {rows sizes order : List ℕ} (ready : Ready n rows sizes ord
         own .total,
         own-paths≤total n (cell rows) (sizeIn sizes) (λ i. n - lowest (at i) n) rises-from-end (ownTask numbers listed) m (own .each)
             (λ i t u h k l. one-with listed rise (getD numbers i 0) t u (omega arith) (omega arith)) (own .bound),
-        total-within (sizeIn sizes) n (ready .few) (ready .light),
+        total-within (sizeIn sizes) n (ready .arrays .few) (ready .arrays .light),
       )

@@ -22,20 +22,10 @@ use Rattle.preempt.specs.Tasks.{TasksRead}
 use Rattle.preempt.proofs.Accepted.{shape}
 use Rattle.preempt.proofs.Columns.{column-length}
 use Rattle.stack.specs.Order.{Falling}
-use Rattle.stack.specs.Setting.{Arrays, Ready, Rising}
+use Rattle.stack.specs.Setting.{Ready, RowsRise}
 use Rattle.stack.specs.Related.{RelatedRows}
 use Rattle.stack.proofs.Inserting.{falling-ready}
 use Rattle.stack.proofs.Columns.{field-total}
-
--- what the search asks of it
-pub ready-arrays : {n : ℕ} {rows sizes order : List ℕ} → Ready n rows sizes order → Arrays n rows sizes
-ready-arrays ready =
-    record {
-      few = ready .few;
-      row-count = ready .row-count;
-      size-count = ready .size-count;
-      light = ready .light;
-    }
 
 module _ (image : List ℕ) (known : (k : ℕ) → Fits w8 (getD image k 0)) (right : accepted (tableVerdict image) ≡ true) (t : Tasks) (read : TasksRead (records image) t) where
   accepted-shape : Shape (records image)
@@ -79,7 +69,7 @@ module _ (image : List ℕ) (known : (k : ℕ) → Fits w8 (getD image k 0)) (ri
       omega (arith, field-total (records image) (λ task. task .id) (t .ids) (accepted-shape .few-tasks) (λ i. 0) (read .ids) i, le2-small (getD (tasks (records image)) i []) (ofKind-bytes image (λ k. known k .fits) 2 i) 2)
 
   -- cells that count rise in priority, as no threshold is below its task's
-  pub rows-rising : (lent rows : List ℕ) → RelatedRows (t .count) (t .thresholds) (t .priorities) lent rows → Rising (t .count) rows (t .priorities)
+  pub rows-rising : (lent rows : List ℕ) → RelatedRows (t .count) (t .thresholds) (t .priorities) lent rows → RowsRise (t .count) rows (t .priorities)
   rows-rising lent rows related =
       record {
         priority-count = priorities-long;
@@ -97,4 +87,6 @@ module _ (image : List ℕ) (known : (k : ℕ) → Fits w8 (getD image k 0)) (ri
   pub rows-ready : (lent rows order : List ℕ) → length order ≡ 64 → RelatedRows (t .count) (t .thresholds) (t .priorities) lent rows → Falling (t .count) (t .priorities) order
       → Ready (t .count) rows (t .sizes) order
   rows-ready lent rows order long related falling =
-      falling-ready few-read (related .row-count) sizes-long long (λ i h. sizes-light i) falling (rows-rising lent rows related)
+      falling-ready
+      (record { few = few-read; row-count = related .row-count; size-count = sizes-long; light = λ i h. sizes-light i })
+      long falling (rows-rising lent rows related)

@@ -15,17 +15,14 @@ pub record Arrays (n : ℕ) (rows sizes : List ℕ) : Type 0 where
 
 -- and an order of their places in which those that may preempt a task stand before it
 pub record Ready (n : ℕ) (rows sizes order : List ℕ) : Type 0 where
-  pub few : n ≤ 64
-  pub row-count : length rows ≡ 64
-  pub size-count : length sizes ≡ 64
+  pub arrays : Arrays n rows sizes
   pub order-count : length order ≡ 64
-  pub light : (i : ℕ) → i < n → getD sizes i 0 ≤ 65535
   pub places : (k : ℕ) → k < n → getD order k 0 < n
   pub occurs : (i : ℕ) → i < n → (k : ℕ) × (k < n) × (getD order k 0 ≡ i)
   pub earlier : (k m : ℕ) → k < n → m < n → T (cell rows (getD order k 0) (getD order m 0)) → m < k
 
 -- a task may only be preempted by a task of higher priority, and priorities go from 1 to 255
-pub record Rising (n : ℕ) (rows priorities : List ℕ) : Type 0 where
+pub record RowsRise (n : ℕ) (rows priorities : List ℕ) : Type 0 where
   pub priority-count : length priorities ≡ 64
   pub tasks : (i j : ℕ) → T (cell rows i j) → (i < n) × (j < n)
   pub rises : (i j : ℕ) → i < n → j < n → T (cell rows i j) → getD priorities i 0 < getD priorities j 0

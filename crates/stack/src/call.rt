@@ -9,7 +9,7 @@ ghost use Rattle.rules.specs.Refusals.{accepted, tableVerdict, refusal as Refus
 ghost use Rattle.rules.specs.Calls.{over, BoundCall, boundRefusal};
 ghost use Rattle.preempt.specs.Tasks.{TasksRead};
 ghost use Rattle.rules.specs.Records.{transactions};
-ghost use Rattle.stack.specs.Setting.{Ready, Rising};
+ghost use Rattle.stack.specs.Setting.{Ready, RowsRise};
 ghost use Rattle.stack.specs.Figures.{FoundOver, FoundFor};
 use crate::levels::level_bound;
 use crate::order::by_falling_priority;
@@ -17,7 +17,6 @@ use crate::own::transaction_bound;
 use crate::path::path_bound;
 use crate::related::related_rows;
 use crate::search::heaviest_chain;
-use preempt::places::all_below;
 use preempt::places::wide;
 use preempt::tasks::Tasks;
 use preempt::tasks::read_tasks;
@@ -63,12 +62,12 @@ fn find_over(
 ) -> Found
     requires { ⌜ accepted (tableVerdict (now image)) ≡ true ⌝ }
     requires { ⌜ Ready count (now rows) (now sizes) (now order) ⌝ }
-    requires { ⌜ Rising count (now rows) (now priorities) ⌝ }
+    requires { ⌜ RowsRise count (now rows) (now priorities) ⌝ }
     requires { ⌜ length (now numbers) ≡ 64 ⌝ }
     ensures { λ r. ⌜ FoundOver count (now (rows .entry)) (now (sizes .entry)) (now (priorities .entry)) (now (numbers .entry)) (transactions (records (now (image .entry)))) r ⌝ }
 {
     let best = heaviest_chain(rows, sizes, priorities, count);
-    let path = path_bound(rows, sizes, order, count, all_below(count));
+    let path = path_bound(rows, sizes, order, count);
     let own = transaction_bound(image, numbers, rows, sizes, order, count);
     let levels = level_bound(priorities, sizes, count);
     let places = best.places;
@@ -99,17 +98,17 @@ fn find(image: &[u8], tasks: Tasks, map: &[u64]) -> Found
     find_over(image, &priorities, &sizes, &numbers, &rows, &order, count)
 }
 
-// Writes the ids of the chain over the start of the room.
-fn write_ids(places: [u8; 64], count: usize, numbers: &[u32], ids: &mut [u16])
-    requires { ⌜ (length places ≡ 64) × (count ≤ 64) × (length (now numbers) ≡ 64) × (64 ≤ length (now ids)) ⌝ }
+// Writes the ids of the chain, by its places among the ids of all tasks, over the start of the room.
+fn write_ids(places: [u8; 64], count: usize, all: &[u32], ids: &mut [u16])
+    requires { ⌜ (length places ≡ 64) × (count ≤ 64) × (length (now all) ≡ 64) × (64 ≤ length (now ids)) ⌝ }
     requires { ⌜ ((k : ℕ) → k < count → getD places k 0 < 64) ⌝ }
-    requires { ⌜ ((i : ℕ) → getD (now numbers) i 0 < 65536) ⌝ }
-    ensures { λ _. ⌜ now (ids .exit) ≡ over (List·map (λ i. getD (now (numbers .entry)) i 0) (take count places)) (now (ids .entry)) ⌝ }
+    requires { ⌜ ((i : ℕ) → getD (now all) i 0 < 65536) ⌝ }
+    ensures { λ _. ⌜ now (ids .exit) ≡ over (List·map (λ i. getD (now (all .entry)) i 0) (take count places)) (now (ids .entry)) ⌝ }
 {
     let mut k: usize = 0;
     while k < count {
         let place = wide(places[k]);
-        ids[k] = numbers[place] as u16;
+        ids[k] = all[place] as u16;
         k += 1;
     }
 }
@@ -133,8 +132,8 @@ pub fn find_bounds(image: &[u8], map: &[u64], ids: &mut [u16]) -> Bounds
     let found = find(image, tasks, map);
     let places = found.places;
     let length = found.length;
-    let numbers = tasks.ids;
-    write_ids(places, length, &numbers, ids);
+    let all = tasks.ids;
+    write_ids(places, length, &all, ids);
     Bounds {
         number: 0,
         place: 0,

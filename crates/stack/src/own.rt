@@ -7,13 +7,15 @@ ghost use Rattle.rules.specs.Records.{transactions as Records·transactions};
 ghost use Rattle.rules.specs.Refusals.{accepted, tableVerdict};
 ghost use Rattle.stack.specs.Setting.{Ready};
 ghost use Rattle.stack.specs.Figures.{OwnPaths};
-use crate::path::path_bound;
+use crate::path::largest_at;
+use crate::path::path_sums;
 use image::bytes::two_bytes;
 use image::records::record_at;
 use preempt::bits::members;
 use table::count::count_kind;
 
-// For each transaction of an accepted table the path bound of the tasks with its number, added up.
+// For each transaction of an accepted table the path bound of the tasks with its number, added up. No task has two numbers,
+// so one array of best sums serves all transactions and is handed on from each to the next.
 pub fn transaction_bound(
     image: &[u8],
     numbers: &[u32],
@@ -28,12 +30,15 @@ pub fn transaction_bound(
     ensures { λ r. ⌜ OwnPaths count (now (rows .entry)) (now (sizes .entry)) (now (numbers .entry)) (Records·transactions (records (now (image .entry)))) (length (Records·transactions (records (now (image .entry))))) r ⌝ }
 {
     let transactions = count_kind(image, 1);
+    let mut sums = [0u32; 64];
     let mut total: u32 = 0;
     let mut t: usize = 0;
     while t < transactions {
         let number = two_bytes(record_at(image, t), 2);
         let own = members(numbers, count, number);
-        total += path_bound(rows, sizes, order, count, own);
+        let more = path_sums(rows, sizes, order, count, own, sums);
+        sums = more;
+        total += largest_at(&sums, own);
         t += 1;
     }
     total

@@ -1,15 +1,18 @@
 // The largest sum of sizes over paths: lists of places where only neighbours must satisfy the relation.
+ghost use Rattle.rules.specs.Preempt.{cell};
+ghost use Rattle.rules.specs.Chains.{weight, Path, Largest};
 ghost use Rattle.preempt.specs.Places.{Inside};
 ghost use Rattle.stack.specs.Setting.{Ready};
-ghost use Rattle.stack.specs.Paths.{LargestAt, PathBound};
+ghost use Rattle.stack.specs.Paths.{sizeIn, LargestAt, PathSums};
 use preempt::bits::is_set;
+use preempt::places::all_below;
 use preempt::places::lowest;
 use preempt::places::shared;
 use preempt::places::wide;
 use preempt::places::without;
 
 // The largest of the sums at the places of a set, or 0.
-fn largest_at(sums: &[u32; 64], set: u64) -> u32
+pub fn largest_at(sums: &[u32; 64], set: u64) -> u32
     ensures { λ r. ⌜ LargestAt (now (sums .entry)) set r ⌝ }
 {
     let mut largest: u32 = 0;
@@ -25,14 +28,21 @@ fn largest_at(sums: &[u32; 64], set: u64) -> u32
     largest
 }
 
-// The largest sum over paths inside the cover. Places are taken by falling priority, so that the best sums of all that
-// may preempt a place are known when its own is made.
-pub fn path_bound(rows: &[u64], sizes: &[u32], order: &[u8], count: usize, cover: u64) -> u32
+// The sums with those of the cover's places filled in: at each the largest sum over paths inside the cover that start there.
+// The other places keep theirs. Places are taken by falling priority, so that the best sums of all that may preempt a place
+// are known when its own is made.
+pub fn path_sums(
+    rows: &[u64],
+    sizes: &[u32],
+    order: &[u8],
+    count: usize,
+    cover: u64,
+    mut sums: [u32; 64],
+) -> [u32; 64]
     requires { ⌜ Ready count (now rows) (now sizes) (now order) ⌝ }
     requires { ⌜ Inside count cover ⌝ }
-    ensures { λ r. ⌜ PathBound count (now (rows .entry)) (now (sizes .entry)) cover r ⌝ }
+    ensures { λ r. ⌜ PathSums count (now (rows .entry)) (now (sizes .entry)) cover sums r ⌝ }
 {
-    let mut sums = [0u32; 64];
     let mut rest = cover;
     let mut k: usize = 0;
     while 0 < rest {
@@ -44,5 +54,16 @@ pub fn path_bound(rows: &[u64], sizes: &[u32], order: &[u8], count: usize, cover
             rest = without(rest, place);
         }
     }
-    largest_at(&sums, cover)
+    sums
+}
+
+// The largest sum over paths of all tasks.
+pub fn path_bound(rows: &[u64], sizes: &[u32], order: &[u8], count: usize) -> u32
+    requires { ⌜ Ready count (now rows) (now sizes) (now order) ⌝ }
+    ensures { λ r. ⌜ Largest (Path count (cell (now (rows .entry)))) (weight (sizeIn (now (sizes .entry)))) r ⌝ }
+{
+    let all = all_below(count);
+    let none = [0u32; 64];
+    let sums = path_sums(rows, sizes, order, count, all, none);
+    largest_at(&sums, all)
 }

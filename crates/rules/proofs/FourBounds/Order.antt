@@ -24,12 +24,6 @@ chain-path n R (i ∷ (j ∷ c)) h = (h .0, h .1 .0, chain-path n R (j ∷ c) (h
 pub chain≤path : (n : ℕ) (R : ℕ → ℕ → Bool) (S : ℕ → ℕ) (r : ℕ) (c : List ℕ) → Largest (Path n R) (weight S) r → Chain n R c → weight S c ≤ r
 chain≤path n R S r c bound h = bound .most c (chain-path n R c h)
 
--- so that the largest weight of a chain is at most the path bound
-pub largest-chain≤path : (n : ℕ) (R : ℕ → ℕ → Bool) (S : ℕ → ℕ) (q r : ℕ) → Largest (Chain n R) (weight S) q → Largest (Path n R) (weight S) r → q ≤ r
-largest-chain≤path n R S q r chains paths =
-    let (c, chain, same) = chains .reached in
-    omega (arith, chain≤path n R S r c paths chain, same)
-
 -- the largest of the sizes at a priority, and these added up up to the highest in use
 abbrev pub level : (ℕ → ℕ) → (ℕ → ℕ) → ℕ → ℕ → ℕ
 level S P n p = largestTo (λ i. cond (eqb (P i) p) (S i) 0) n

@@ -28,11 +28,6 @@ pub check-front : (s t : List ℕ) → ((i : ℕ) → i < 510 → getD s i 0 ≡
 unfolding checkOf
 check-front s t h = rw (sumTo-ext (λ i. (i + 1) * getD s i 0) (λ i. (i + 1) * getD t i 0) 510 (λ i l. rw (h i l)))
 
--- a check is below 65,521
-pub check-small : (s : List ℕ) → checkOf s < 65521
-unfolding checkOf
-check-small s = omega arith
-
 -- 510 bytes with their check behind them
 module _ (body : List ℕ) (e : length body ≡ 510) where
   -- the block is 512 bytes long

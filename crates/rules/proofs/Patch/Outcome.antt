@@ -17,7 +17,7 @@ use Rattle.rules.proofs.Image.Parts.{Records}
 use Rattle.rules.proofs.Patch.Members.{has-each, outcome-each}
 use Rattle.rules.proofs.Patch.Turned.{turned-form, turned-range}
 use Rattle.rules.proofs.Patch.WellFormed.{well-formed-of}
-use Rattle.rules.proofs.Patch.Valid.{Valid, valid-of, valid-few, table-of-valid, valid-not-broken, valid-imageOf}
+use Rattle.rules.proofs.Patch.Valid.{Valid, valid-of, table-of-valid, valid-not-broken, valid-imageOf}
 
 -- an accepted table, and an accepted patch
 module _ (base patch : List ℕ) (table : accepted (tableVerdict base) ≡ true) (right : accepted (patchVerdict patch) ≡ true) where
@@ -68,10 +68,3 @@ module _ (base patch : List ℕ) (table : accepted (tableVerdict base) ≡ true)
       either (broken rs)
       (λ u. u ∙ sym (ap not t))
       (λ u. never (accepted (tableVerdict (imageOf Table rs))) (ap accepted (table-of-valid rs (outcome-valid u))) t))
-
-  -- more records than a table holds are broken
-  pub outcome-crowded : 336 < length (outcome (records base) (records patch)) → broken (outcome (records base) (records patch)) ≡ true
-  outcome-crowded many =
-      either (broken (outcome (records base) (records patch)))
-      (λ t. t)
-      (λ t. absurd (omega (arith, valid-few (outcome (records base) (records patch)) (outcome-valid t))))

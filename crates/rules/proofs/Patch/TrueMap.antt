@@ -6,12 +6,11 @@ use mathlib.Core.Path.{_≡_, ap, sym, _∙_}
 use native.Mathlib.Omega.{arith}
 use lib.ListN.{length, drop, List·getD-append}
 use Rattle.rules.specs.Records.{taskCount}
-use Rattle.rules.specs.Preempt.{cell, decided, mapOf}
+use Rattle.rules.specs.Preempt.{cell, decided, mapOf, bitAt}
 use Rattle.rules.specs.Patches.{outcome, touched, oldPlace, carried, patchedMap}
 use Rattle.rules.specs.Calls.{over}
 use Rattle.rules.proofs.Numbers.{either}
 use Rattle.rules.proofs.Tests.{neither-first, neither-second}
-use Rattle.rules.proofs.Bits.{bitAt}
 use Rattle.rules.proofs.Maps.{map-length, cell-of-map, map-ext}
 use Rattle.rules.proofs.Patch.Valid.{Valid, valid-few-tasks}
 use Rattle.rules.proofs.Patch.Untouched.{old-below, untouched-decided}

@@ -1,7 +1,7 @@
 -- Between untouched tasks the outcome decides as the base did: each record that concerns such a task stands in both or in neither.
 use Prim.Native.Nat.{ℕ, _<_}
 use mathlib.Core.List.{List, []}
-use mathlib.Core.Bool.{true, false, or-true}
+use mathlib.Core.Bool.{Bool, true, false, or-true}
 use mathlib.Core.Path.{_≡_, refl, ap, sym, _∙_}
 use borrow.Author.Tests.{eq-eqb, eqb-true}
 use lib.ListN.{length, getD, set}
@@ -19,36 +19,36 @@ use Rattle.rules.proofs.Patch.Turned.{turned-kind, turned-number, turne
 use Rattle.rules.proofs.Patch.Valid.{Valid, valid-transactions-rise, valid-tasks-rise}
 
 -- what concerns a task
-module _ (r task : List ℕ) where
+module _ (r : List ℕ) (id transaction : ℕ) where
   -- its own record
-  own-concerns : kindOf r ≡ 2 → numberOf r ≡ numberOf task → concerns r task ≡ true
-  own-concerns kind number = rw (eq-eqb (kindOf r) 2 kind, eq-eqb (numberOf r) (numberOf task) number)
+  own-concerns : kindOf r ≡ 2 → numberOf r ≡ id → concerns r id transaction ≡ true
+  own-concerns kind number = rw (eq-eqb (kindOf r) 2 kind, eq-eqb (numberOf r) id number)
 
   -- a pair that names it first, or second
-  first-concerns : kindOf r ≡ 3 → numberOf r ≡ numberOf task → concerns r task ≡ true
-  first-concerns kind number = rw (kind, eq-eqb (numberOf r) (numberOf task) number)
+  first-concerns : kindOf r ≡ 3 → numberOf r ≡ id → concerns r id transaction ≡ true
+  first-concerns kind number = rw (kind, eq-eqb (numberOf r) id number)
 
-  second-concerns : kindOf r ≡ 3 → secondOf r ≡ numberOf task → concerns r task ≡ true
+  second-concerns : kindOf r ≡ 3 → secondOf r ≡ id → concerns r id transaction ≡ true
   second-concerns kind number =
-      rw (kind, eq-eqb (secondOf r) (numberOf task) number)
-      (either (eqb (numberOf r) (numberOf task)) (λ t. rw t) (λ t. rw t))
+      rw (kind, eq-eqb (secondOf r) id number)
+      (either (eqb (numberOf r) id) (λ t. rw t) (λ t. rw t))
 
   -- its transaction's record
-  transaction-concerns : kindOf r ≡ 1 → numberOf r ≡ secondOf task → concerns r task ≡ true
-  transaction-concerns kind number = rw (kind, eq-eqb (numberOf r) (secondOf task) number)
+  transaction-concerns : kindOf r ≡ 1 → numberOf r ≡ transaction → concerns r id transaction ≡ true
+  transaction-concerns kind number = rw (kind, eq-eqb (numberOf r) transaction number)
 
   -- so a pair that forbids that it is preempted concerns it
-  bars-concerns : (b : ℕ) → kindOf r ≡ 3 → bars r (numberOf task) b ≡ true → concerns r task ≡ true
+  bars-concerns : (b : ℕ) → kindOf r ≡ 3 → bars r id b ≡ true → concerns r id transaction ≡ true
   bars-concerns b kind h =
-      either (names r (numberOf task) b)
-      (λ t. first-concerns kind (eqb-true (numberOf r) (numberOf task) (both-first (eqb (numberOf r) (numberOf task)) (eqb (secondOf r) b) t)))
+      either (names r id b)
+      (λ t. first-concerns kind (eqb-true (numberOf r) id (both-first (eqb (numberOf r) id) (eqb (secondOf r) b) t)))
       (λ t.
-      let other : names r b (numberOf task) ≡ true = both-second (eqb (sortOf r) 1) (names r b (numberOf task)) (rw t at h) in
-      second-concerns kind (eqb-true (secondOf r) (numberOf task) (both-second (eqb (numberOf r) b) (eqb (secondOf r) (numberOf task)) other)))
+      let other : names r b id ≡ true = both-second (eqb (sortOf r) 1) (names r b id) (rw t at h) in
+      second-concerns kind (eqb-true (secondOf r) id (both-second (eqb (numberOf r) b) (eqb (secondOf r) id) other)))
 
 -- a record put in concerns the tasks that the patch's does
-put-concerns : (p task : List ℕ) → concerns (set p 31 0) task ≡ concerns p task
-put-concerns p task = rw (turned-kind p 0, turned-number p 0, turned-second p 0)
+put-concerns : (p : List ℕ) (id transaction : ℕ) → concerns (set p 31 0) id transaction ≡ concerns p id transaction
+put-concerns p id transaction = rw (turned-kind p 0, turned-number p 0, turned-second p 0)
 
 -- a record of a list whose numbers rise is found by its number
 found-by-number : (l : List (List ℕ)) → Rises numberOf l → (r : List ℕ) → has l r ≡ true
@@ -74,26 +74,30 @@ barred-carries rs ss a b carries h =
 abbrev pub taskRecord : List (List ℕ) → List (List ℕ) → ℕ → List ℕ
 taskRecord base patch i = getD (tasks (outcome base patch)) i []
 
+-- the record concerns the task at place i of the outcome
+abbrev pub concernsAt : List (List ℕ) → List (List ℕ) → ℕ → List ℕ → Bool
+concernsAt base patch i r = concerns r (taskAt (outcome base patch) i .id) (taskAt (outcome base patch) i .transaction)
+
 -- a task of the outcome that is not touched
 module _ (base patch : List (List ℕ)) (i : ℕ) (untouched : touched base patch i ≡ false) where
   -- no record of the patch concerns it
-  none-concerns : (p : List ℕ) → has patch p ≡ true → concerns p (taskRecord base patch i) ≡ false
+  none-concerns : (p : List ℕ) → has patch p ≡ true → concernsAt base patch i p ≡ false
   unfolding touched
   none-concerns =
-      has-each (λ p. concerns p (taskRecord base patch i) ≡ false) patch
-      (λ k l. some-fails (λ k. concerns (getD patch k []) (taskRecord base patch i)) (length patch) k l untouched)
+      has-each (λ p. concernsAt base patch i p ≡ false) patch
+      (λ k l. some-fails (λ k. concernsAt base patch i (getD patch k [])) (length patch) k l untouched)
 
   -- a record of the outcome that concerns it was not put in, so it stands in the base
-  pub stood-before : (r : List ℕ) → concerns r (taskRecord base patch i) ≡ true → has (outcome base patch) r ≡ true → has base r ≡ true
+  pub stood-before : (r : List ℕ) → concernsAt base patch i r ≡ true → has (outcome base patch) r ≡ true → has base r ≡ true
   stood-before r concerning there =
-      outcome-from (λ s. concerns s (taskRecord base patch i) ≡ true → has base s ≡ true) base patch r
+      outcome-from (λ s. concernsAt base patch i s ≡ true → has base s ≡ true) base patch r
       (λ h c. h)
       (λ p h way c.
-      never (concerns p (taskRecord base patch i)) (sym (put-concerns p (taskRecord base patch i)) ∙ c) (none-concerns p h))
+      never (concernsAt base patch i p) (sym (put-concerns p (taskAt (outcome base patch) i .id) (taskAt (outcome base patch) i .transaction)) ∙ c) (none-concerns p h))
       there concerning
 
   -- and a record of the base that concerns it was not taken out, so it stands in the outcome
-  pub stands-after : (r : List ℕ) → concerns r (taskRecord base patch i) ≡ true → has base r ≡ true → has (outcome base patch) r ≡ true
+  pub stands-after : (r : List ℕ) → concernsAt base patch i r ≡ true → has base r ≡ true → has (outcome base patch) r ≡ true
   stands-after r concerning there =
       has-outcome base patch r
       ∙ rw (there, kept) (or-true (has (putIn patch) r))
@@ -101,21 +105,21 @@ module _ (base patch : List (List ℕ)) (i : ℕ) (untouched : touched base patc
       kept : has (takenOut patch) r ≡ false
       kept =
           has-takenOut patch r
-          ∙ either (has patch r) (λ t. never (concerns r (taskRecord base patch i)) concerning (none-concerns r t)) (λ t. rw t)
+          ∙ either (has patch r) (λ t. never (concernsAt base patch i r) concerning (none-concerns r t)) (λ t. rw t)
 
   -- its own record stands in the base
   own-stood : i < taskCount (outcome base patch) → has base (taskRecord base patch i) ≡ true
   own-stood h =
       let r = taskRecord base patch i in
-      stood-before r (own-concerns r r (kind-ofKind 2 (outcome base patch) i h) refl) (has-kind-at 2 (outcome base patch) i h)
+      stood-before r (own-concerns r (numberOf r) (secondOf r) (kind-ofKind 2 (outcome base patch) i h) refl) (has-kind-at 2 (outcome base patch) i h)
 
   -- the pairs that forbid that it is preempted are the base's
   pub barred-before : (b : ℕ) → barred (outcome base patch) (numberOf (taskRecord base patch i)) b ≡ barred base (numberOf (taskRecord base patch i)) b
   barred-before b =
       let r = taskRecord base patch i in
       same-tests (barred (outcome base patch) (numberOf r) b) (barred base (numberOf r) b)
-      (barred-carries (outcome base patch) base (numberOf r) b (λ q kind forbids there. stood-before q (bars-concerns q r b kind forbids) there))
-      (barred-carries base (outcome base patch) (numberOf r) b (λ q kind forbids there. stands-after q (bars-concerns q r b kind forbids) there))
+      (barred-carries (outcome base patch) base (numberOf r) b (λ q kind forbids there. stood-before q (bars-concerns q (numberOf r) (secondOf r) b kind forbids) there))
+      (barred-carries base (outcome base patch) (numberOf r) b (λ q kind forbids there. stands-after q (bars-concerns q (numberOf r) (secondOf r) b kind forbids) there))
 
   -- in a base that is a table
   module _ (table : Valid base) (h : i < taskCount (outcome base patch)) where
@@ -134,10 +138,6 @@ module _ (base patch : List (List ℕ)) (i : ℕ) (untouched : touched base patc
     pub old-record : getD (tasks base) (oldPlace base patch i) [] ≡ taskRecord base patch i
     old-record = found .1
 
-    -- and whose id is its own: it is carried over by its id
-    pub old-id : taskAt base (oldPlace base patch i) .id ≡ taskAt (outcome base patch) i .id
-    old-id = ap numberOf old-record
-
     -- its transaction, which the outcome lists, has the period that it had
     pub period-before : Valid (outcome base patch)
         → periodIn (outcome base patch) (secondOf (taskRecord base patch i)) ≡ periodIn base (secondOf (taskRecord base patch i))
@@ -150,7 +150,7 @@ module _ (base patch : List (List ℕ)) (i : ℕ) (untouched : touched base patc
         let below = place-below (transactions out) x there in
         let number = number-at-place (transactions out) x there in
         let kind = kind-ofKind 1 out place below in
-        let stood = stood-before r (transaction-concerns r (taskRecord base patch i) kind number) (has-kind-at 1 out place below) in
+        let stood = stood-before r (transaction-concerns r (numberOf (taskRecord base patch i)) (secondOf (taskRecord base patch i)) kind number) (has-kind-at 1 out place below) in
         let same = found-by-number (transactions base) (valid-transactions-rise base table) r (has-among-kind 1 base r kind stood) .1 in
         sym (ap periodOf (rw number at same))
 

@@ -43,7 +43,7 @@ use denote.Triple.Table.{entered, cited}
 use denote.Triple.Walked.{says, Stays, stay-none-slice, walkOf, goes-none-slice, Walks, ends-at, walked, walk-meets}
 use denote.Exit.{yes}
 use Rattle.rules.specs.Blocks.{recordAt, recordCount, records}
-use Rattle.image.specs.Met.{past, metAmong}
+use Rattle.image.specs.InTurn.{past, metAmong}
 use Rattle.rules.proofs.Numbers.{either}
 use Rattle.image.proofs.InTurn.{count-fits, met-le, met-more, met-none}
 use Rattle.image.proofs.reader.Reader.Laws as T′

@@ -42,7 +42,7 @@ use denote.Triple.Walked.{says, Stays, stay-none, stay-none-slice, walkOf, goes-
 use denote.Exit.{yes}
 use denote.Triple.Clauses.{ensured, lasts}
 use Rattle.rules.specs.Blocks.{records}
-use Rattle.image.specs.Met.{past}
+use Rattle.image.specs.InTurn.{past}
 use Rattle.image.specs.declared.reader.Reader.{Reader}
 use Rattle.image.proofs.reader.Reader as T
 use Rattle.image.proofs.reader.Reader.Laws as T′

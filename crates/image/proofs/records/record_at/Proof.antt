@@ -7,17 +7,8 @@ use borrow.Author.Needs.{needs}
 use Rattle.image.proofs.records.record_at.Statement.{statement}
 use Rattle.image.proofs.records.record_at.Tie as tie
 
-mul-start : tie.Need-mul-start
-mul-start c = search needs
-
-add-start : tie.Need-add-start
-add-start c = search needs
-
-mul-start-2 : tie.Need-mul-start-2
-mul-start-2 c = search needs
-
-add-start-2 : tie.Need-add-start-2
-add-start-2 c = search needs
+record-start-requires : tie.Need-record-start-requires
+record-start-requires c κs = search needs
 
 add-end : tie.Need-add-end
 add-end c = search needs
@@ -33,18 +24,15 @@ part-result-end c = search needs
 
 returns : tie.Need-returns
 returns c =
-    let k = c .before .args .k in
+    let k = c .before .before .before .args .k in
     let long : recordStart k + 32 - recordStart k ≡ 32 = omega arith in
-    rw long
+    rw (c .before .record-start .ensures, long)
 
 pub record-at-spec : {M : Type 1} → statement M
 record-at-spec =
     tie.close
     (tie.spec
-    mul-start
-    add-start
-    mul-start-2
-    add-start-2
+    record-start-requires
     add-end
     sub-result
     part-result-start

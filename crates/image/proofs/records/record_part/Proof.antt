@@ -24,17 +24,8 @@ returns c =
     let k = c .before .before .before .args .k in
     part-past image (length image) (length image - length image) (omega arith) ∙ sym (part-past image (recordStart k) 32 (omega arith))
 
-mul-start : tie.Need-mul-start
-mul-start c = search needs
-
-add-start : tie.Need-add-start
-add-start c = search needs
-
-mul-start-2 : tie.Need-mul-start-2
-mul-start-2 c = search needs
-
-add-start-2 : tie.Need-add-start-2
-add-start-2 c = search needs
+record-start-requires : tie.Need-record-start-requires
+record-start-requires c κs = search needs
 
 least-requires : tie.Need-least-requires
 least-requires c κs = search needs
@@ -56,9 +47,9 @@ part-result-end-2 c = search needs
 
 returns-2 : tie.Need-returns-2
 returns-2 c =
-    let image = c .before .before .before .before .before .args .image .now in
-    let k = c .before .before .before .before .before .args .k in
-    rw (c .before .before .least .ensures, c .before .least2 .ensures) (part-clipped image (recordStart k) 32)
+    let a = c .before .before .before .before .before .before .args in
+    rw (c .before .before .least .ensures, c .before .least2 .ensures, c .before .before .before .record-start .ensures)
+    (part-clipped (a .image .now) (recordStart (a .k)) 32)
 
 pub record-part-spec : {M : Type 1} → statement M
 record-part-spec =
@@ -68,10 +59,7 @@ record-part-spec =
     part-result-start
     part-result-end
     returns
-    mul-start
-    add-start
-    mul-start-2
-    add-start-2
+    record-start-requires
     least-requires
     add-least
     least-requires-2

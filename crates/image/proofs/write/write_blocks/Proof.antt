@@ -5,9 +5,8 @@ use mathlib.Core.Path.{_≡_, refl, _∙_}
 use lib.ListN.{length, take, drop}
 use Rattle.rules.specs.Numbers.{upTo}
 use Rattle.rules.specs.Blocks.{joined, blockOf}
-use Rattle.rules.specs.Calls.{over}
+use Rattle.rules.specs.Calls.{over, cut, blocksOf}
 use Rattle.rules.proofs.Numbers.{length-upTo}
-use Rattle.image.specs.Write.{cut, blocksOf}
 use Rattle.image.proofs.Writes.{block-cut, blocks-more}
 use native.Mathlib.Omega.{arith}
 use borrow.Author.Needs.{needs}

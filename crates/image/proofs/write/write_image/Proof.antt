@@ -1,6 +1,6 @@
 -- Each test that fails makes the bytes not writable; where all hold, the blocks are written.
 use borrow.Author.Tests.{eq-eqb, ne-eqb, le-leb, lt-leb}
-use Rattle.image.specs.Write.{writable}
+use Rattle.rules.specs.Calls.{writable}
 use native.Mathlib.Omega.{arith}
 use borrow.Author.Needs.{needs}
 use Rattle.image.proofs.write.write_image.Statement.{statement}

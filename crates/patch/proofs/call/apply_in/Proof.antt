@@ -11,10 +11,9 @@ use lib.Seq.{length-take-le}
 use Rattle.rules.specs.Blocks.{records}
 use Rattle.rules.specs.Patches.{touchedCount}
 use Rattle.rules.specs.Refusals.{accepted, refusal, tableVerdict}
-use Rattle.rules.specs.Calls.{over}
+use Rattle.rules.specs.Calls.{over, patchAccepted}
 use Rattle.rules.proofs.Tests.{neither-first, neither-second}
 use Rattle.rules.proofs.Refusals.{zero-accepted, other-refused}
-use Rattle.patch.specs.Call.{acceptedPatch}
 use Rattle.table.proofs.Counts.{patch-held}
 use Rattle.patch.proofs.Calling.{bothVerdict, isShort, both-table, both-patch, both-present, call-refused, call-broken, call-short, call-fine, patch-refused, patch-accepted, refused-broken, accepted-whole, accepted-image, accepted-records, accepted-length}
 use borrow.Author.Needs.{needs}
@@ -128,7 +127,7 @@ returns-4 c =
     let call = patch-accepted (a .base .now) (a .patch .now) (a .map .now) (a .room .now) (a .carried .now) (call-fine (a .base .now) (a .patch .now) (a .map .now) (a .room .now) (a .carried .now) both whole enough) in
     let written = c .before .before .before .before .write-rooms .ensures in
     record {
-      answered = written .0 ∙ ap (acceptedPatch (touchedCount (records (a .base .now)) (records (a .patch .now)))) (length-take-le n later (made .inside) ∙ long) ∙ call .answered;
+      answered = written .0 ∙ ap (patchAccepted (touchedCount (records (a .base .now)) (records (a .patch .now)))) (length-take-le n later (made .inside) ∙ long) ∙ call .answered;
       written = written .1 .0 ∙ ap (λ (values : List ℕ). over values (a .room .now)) image ∙ call .written;
       carried = written .1 .1 ∙ call .carried;
     }

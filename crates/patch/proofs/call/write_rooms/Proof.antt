@@ -4,8 +4,7 @@ use mathlib.Core.List.{List}
 use mathlib.Core.Path.{ap, _∙_}
 use native.Mathlib.Omega.{arith}
 use lib.ListN.{length}
-use Rattle.rules.specs.Calls.{over}
-use Rattle.patch.specs.Call.{acceptedPatch}
+use Rattle.rules.specs.Calls.{over, patchAccepted}
 use Rattle.patch.proofs.Accepted.{table-long}
 use borrow.Author.Needs.{needs}
 use Rattle.patch.proofs.call.write_rooms.Statement.{statement}
@@ -33,7 +32,7 @@ returns : tie.Need-returns
 returns c =
     let a = c .before .before .before .before .before .before .before .before .before .before .before .before .before .before .before .before .args in
     let found = c .before .before .before .before .before .before .before .before .before .carry-map .ensures in
-    (ap (λ (tasks : ℕ). acceptedPatch tasks (length (a .image .now))) (found .touched), (c .before .before .before .before .before .before .copy-bytes .ensures, c .before .before .write-rows .ensures ∙ ap (λ (rows : List ℕ). over rows (a .carried .now)) (found .map)))
+    (ap (λ (tasks : ℕ). patchAccepted tasks (length (a .image .now))) (found .touched), (c .before .before .before .before .before .before .copy-bytes .ensures, c .before .before .write-rows .ensures ∙ ap (λ (rows : List ℕ). over rows (a .carried .now)) (found .map)))
 
 pub write-rooms-spec : {M : Type 1} → statement M
 write-rooms-spec =

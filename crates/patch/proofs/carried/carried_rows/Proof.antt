@@ -7,10 +7,10 @@ use native.Mathlib.Omega.{arith}
 use borrow.Author.Needs.{needs}
 use lib.ListN.{getD}
 use Rattle.rules.specs.declared.Task.{Task}
-use Rattle.rules.specs.Preempt.{cell, rowFrom, mapFrom}
+use Rattle.rules.specs.Preempt.{cell, rowFrom, mapFrom, bitAt}
 use Rattle.rules.proofs.Maps.{row-ext}
 use Rattle.preempt.specs.declared.tasks.Tasks.{Tasks}
-use Rattle.preempt.specs.Bits.{bitAt, column}
+use Rattle.preempt.specs.Bits.{column}
 use Rattle.preempt.proofs.Columns.{column-none, column-filled}
 use Rattle.preempt.proofs.Maps.{lowerIn, upperIn, decided-sides}
 use Rattle.patch.specs.Carried.{cellNew, carriedBy}

@@ -6,9 +6,8 @@ use mathlib.Core.Path.{_≡_, refl, _∙_}
 use lib.ListN.{getD}
 use borrow.Author.Needs.{needs}
 use Rattle.rules.specs.declared.Task.{Task}
-use Rattle.rules.specs.Preempt.{rowFrom}
+use Rattle.rules.specs.Preempt.{rowFrom, bitAt}
 use Rattle.rules.proofs.Maps.{row-ext}
-use Rattle.preempt.specs.Bits.{bitAt}
 use Rattle.preempt.specs.Tasks.{upperAt}
 use Rattle.patch.specs.declared.carried.Decision.{Decision}
 use Rattle.patch.specs.Carried.{cellCarried, cellOf, cellNew}

@@ -7,7 +7,7 @@ use Rattle.rules.specs.declared.Form.the-variants.{Table}
 use Rattle.rules.specs.Blocks.{records, joined}
 use Rattle.rules.specs.Patches.{outcome}
 use Rattle.rules.proofs.Patch.Outcome.{outcome-sized}
-use Rattle.image.specs.Write.{writtenLength, writtenRoom}
+use Rattle.rules.specs.Calls.{writtenLength, writtenRoom}
 use Rattle.patch.proofs.Writing.{image-written}
 use borrow.Author.Needs.{needs}
 use Rattle.patch.proofs.outcome.write_in.Statement.{statement}

@@ -7,7 +7,7 @@ use borrow.Author.Needs.{needs}
 use lib.Dec.{eqb}
 use lib.ListN.{getD}
 use Rattle.rules.specs.Records.{kindOf, numberOf, secondOf}
-use Rattle.patch.specs.Touched.{concernsTask}
+use Rattle.rules.specs.Patches.{concerns}
 use Rattle.patch.proofs.Touching.{marks-none, marks-either, marks-members, concerns-transaction, concerns-task, concerns-pair, concerns-none}
 use Rattle.patch.proofs.touched.concerned.Statement.{statement}
 use Rattle.patch.proofs.touched.concerned.Tie as tie
@@ -74,7 +74,7 @@ returns-4 c =
     let a = c .before .before .before .before .before .before .before .before .args in
     let fields = a .fields .now in
     let kind : c .before .before .before .before .byte-at .result ≡ kindOf fields = c .before .before .before .before .byte-at .ensures .0 in
-    marks-none (a .count) (λ i. concernsTask fields (getD (a .ids .now) i 0) (getD (a .transactions .now) i 0))
+    marks-none (a .count) (λ i. concerns fields (getD (a .ids .now) i 0) (getD (a .transactions .now) i 0))
     (λ i l. concerns-none fields (getD (a .ids .now) i 0) (getD (a .transactions .now) i 0) (λ e. omega arith) (λ e. omega arith) (λ e. omega arith))
 
 pub concerned-spec : {M : Type 1} → statement M

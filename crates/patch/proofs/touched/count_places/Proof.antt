@@ -6,8 +6,8 @@ use mathlib.Core.Bool.{true, false}
 use native.Mathlib.Omega.{arith}
 use borrow.Author.Needs.{needs}
 use Rattle.rules.specs.Numbers.{countTo}
+use Rattle.rules.specs.Preempt.{bitAt}
 use Rattle.rules.proofs.Numbers.{sumTo-zero, countTo-passes, countTo-fails, countTo-le}
-use Rattle.preempt.specs.Bits.{bitAt}
 use Rattle.patch.proofs.touched.count_places.Statement.{statement}
 use Rattle.patch.proofs.touched.count_places.Tie as tie
 

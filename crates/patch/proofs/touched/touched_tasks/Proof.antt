@@ -8,15 +8,16 @@ use borrow.Author.Needs.{needs}
 use lib.ListN.{length, getD}
 use Rattle.rules.specs.Numbers.{some}
 use Rattle.rules.specs.Blocks.{records, recordAt, recordCount}
+use Rattle.rules.specs.Patches.{concerns}
 use Rattle.rules.proofs.Numbers.{length-upTo, getD-upTo}
-use Rattle.patch.specs.Touched.{Marks, concernsTask}
+use Rattle.patch.specs.Touched.{Marks}
 use Rattle.patch.proofs.Touching.{marks-start, marks-more}
 use Rattle.patch.proofs.touched.touched_tasks.Statement.{statement}
 use Rattle.patch.proofs.touched.touched_tasks.Tie as tie
 
 -- whether record j concerns the task at place i
 abbrev is-concerned : List (List ℕ) → List ℕ → List ℕ → ℕ → ℕ → Bool
-is-concerned ps ids transactions i j = concernsTask (getD ps j []) (getD ids i 0) (getD transactions i 0)
+is-concerned ps ids transactions i j = concerns (getD ps j []) (getD ids i 0) (getD transactions i 0)
 
 abbrev Inv-loop : tie.InvT-loop
 Inv-loop patch ids transactions count held set₀ k₀ set k = (k ≤ held) × Marks count (λ i. some (is-concerned (records patch) ids transactions i) k) set

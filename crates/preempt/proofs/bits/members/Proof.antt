@@ -1,6 +1,6 @@
 -- The loop's invariant: of the places passed the set holds those whose number is this one.
 use Prim.Native.Nat.{_-_}
-use Rattle.preempt.specs.Bits.{numbered}
+use Rattle.preempt.specs.Bits.{hasNumber}
 use Rattle.preempt.proofs.Choosing.{Chosen, chosen-none, chosen-more, chosen-all}
 use native.Mathlib.Omega.{arith}
 use borrow.Author.Needs.{needs}
@@ -8,7 +8,7 @@ use Rattle.preempt.proofs.bits.members.Statement.{statement}
 use Rattle.preempt.proofs.bits.members.Tie as tie
 
 abbrev Inv-loop : tie.InvT-loop
-Inv-loop numbers count number set₀ place₀ set place = Chosen (numbered numbers number) count place set
+Inv-loop numbers count number set₀ place₀ set place = Chosen (hasNumber numbers number) count place set
 
 abbrev μ-loop : tie.MeasureT-loop
 μ-loop numbers count number set₀ place₀ set place = count - place

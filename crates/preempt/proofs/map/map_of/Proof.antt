@@ -6,9 +6,9 @@ use native.Mathlib.Omega.{arith}
 use borrow.Author.Needs.{needs}
 use lib.ListN.{getD}
 use Rattle.rules.specs.declared.Task.{Task}
-use Rattle.rules.specs.Preempt.{mayPreempt, rowFrom, mapFrom}
+use Rattle.rules.specs.Preempt.{mayPreempt, rowFrom, mapFrom, bitAt}
 use Rattle.preempt.specs.Tasks.{lowerAt, upperAt, decidedOn}
-use Rattle.preempt.specs.Bits.{bitAt, column}
+use Rattle.preempt.specs.Bits.{column}
 use Rattle.preempt.proofs.Columns.{column-none, column-filled}
 use Rattle.preempt.proofs.map.map_of.Statement.{statement}
 use Rattle.preempt.proofs.map.map_of.Tie as tie

@@ -9,9 +9,9 @@ use borrow.Author.Tests.{lt-ltb, le-ltb}
 use borrow.Author.Needs.{needs}
 use lib.Dec.{ltb}
 use Rattle.rules.specs.declared.Task.{Task}
-use Rattle.rules.specs.Preempt.{mayPreempt}
+use Rattle.rules.specs.Preempt.{mayPreempt, bitAt}
 use Rattle.rules.proofs.Numbers.{sumTo-zero}
-use Rattle.rules.proofs.Bits.{bitAt, bitsTo, bits-more, bits-same, bits-room, bits-end}
+use Rattle.rules.proofs.Bits.{bitsTo, bits-more, bits-same, bits-room, bits-end}
 use Rattle.preempt.specs.Tasks.{upperAt}
 use Rattle.preempt.proofs.map.row.Statement.{statement}
 use Rattle.preempt.proofs.map.row.Tie as tie

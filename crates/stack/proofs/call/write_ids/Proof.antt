@@ -13,10 +13,10 @@ use Rattle.stack.proofs.call.write_ids.Statement.{statement}
 use Rattle.stack.proofs.call.write_ids.Tie as tie
 
 abbrev Inv-loop : tie.InvT-loop
-Inv-loop count numbers ids₀ places k₀ ids k = (k ≤ count) × (length ids ≡ length ids₀) × (ids ≡ over (map (λ i. getD numbers i 0) (take k places)) ids₀)
+Inv-loop count all ids₀ places k₀ ids k = (k ≤ count) × (length ids ≡ length ids₀) × (ids ≡ over (map (λ i. getD all i 0) (take k places)) ids₀)
 
 abbrev μ-loop : tie.MeasureT-loop
-μ-loop count numbers ids₀ places k₀ ids k = count - k
+μ-loop count all ids₀ places k₀ ids k = count - k
 
 loop-holds : tie.Need-loop-holds Inv-loop μ-loop
 loop-holds c = search needs
@@ -53,7 +53,7 @@ loop-again c =
     let a = c .before .before .before .before .before .before .args in
     let k = c .before .before .before .loop .k in
     let given = c .before .before .before .before .before .before .pre .0 in
-    let number : ℕ → ℕ = λ i. getD (a .numbers .now) i 0 in
+    let number : ℕ → ℕ = λ i. getD (a .all .now) i 0 in
     (omega (arith, c .before .before .loop-test .taken), length-set (c .before .before .before .loop .ids) k (number (c .before .wide .result)) ∙ c .before .before .before .loop .inv .1, ap (λ (l : List ℕ). set l k (number (c .before .wide .result))) (c .before .before .before .loop .inv .2) ∙ mapped-next number (a .t1) (a .ids .now) k (number (c .before .wide .result)) (omega (arith, c .before .before .loop-test .taken)) (omega (arith, c .before .before .loop-test .taken)) (ap number (c .before .wide .ensures)))
 
 same-length : tie.Need-same-length Inv-loop μ-loop
@@ -62,7 +62,7 @@ same-length c = search needs
 returns : tie.Need-returns Inv-loop μ-loop
 returns c =
     let end : c .before .loop .k ≡ c .before .before .before .before .args .count = omega arith in
-    c .before .loop .inv .2 ∙ ap (λ (n : ℕ). over (map (λ i. getD (c .before .before .before .before .args .numbers .now) i 0) (take n (c .before .before .before .before .args .t1))) (c .before .before .before .before .args .ids .now)) end
+    c .before .loop .inv .2 ∙ ap (λ (n : ℕ). over (map (λ i. getD (c .before .before .before .before .args .all .now) i 0) (take n (c .before .before .before .before .args .t1))) (c .before .before .before .before .args .ids .now)) end
 
 pub write-ids-spec : {M : Type 1} → statement M
 write-ids-spec =

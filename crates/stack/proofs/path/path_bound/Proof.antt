@@ -1,140 +1,36 @@
--- The loop's invariant: the sums of the cover's places outside the rest are settled, and the rest stand later in the order.
-use Prim.Native.Nat.{_-_, _*_, _<_}
-use mathlib.Core.Path.{refl, sym, _∙_}
-use Rattle.stack.proofs.Sums.{Underway, underway-none, underway-left, underway-skip, underway-take, underway-all, largest-light, zeros}
-use native.Mathlib.Omega.{arith}
+-- The best sums of all places are made, and a set of all places leaves the path bound itself.
+use mathlib.Core.Path.{sym, _∙_}
+use borrow.Author.Tests.{ltb-true}
+use Rattle.rules.specs.Preempt.{cell}
+use Rattle.stack.specs.Paths.{sizeIn}
+use Rattle.stack.proofs.Sums.{sums-bound}
+use Rattle.stack.proofs.Figures.{largest-all}
 use borrow.Author.Needs.{needs}
 use Rattle.stack.proofs.path.path_bound.Statement.{statement}
 use Rattle.stack.proofs.path.path_bound.Tie as tie
 
-abbrev Inv-loop : tie.InvT-loop
-Inv-loop rows sizes order count cover sums₀ rest₀ k₀ sums rest k = Underway count rows sizes order cover sums rest k
+all-below-requires : tie.Need-all-below-requires
+all-below-requires c κs = search needs
 
-abbrev μ-loop : tie.MeasureT-loop
-μ-loop rows sizes order count cover sums₀ rest₀ k₀ sums rest k = count - k
+path-sums-requires : tie.Need-path-sums-requires
+path-sums-requires c κs = (c .before .before .before .before .pre, λ j h. ltb-true j (c .before .before .before .before .args .count) (sym (c .all-below .ensures j) ∙ h))
 
--- while a place is left, the order is not at its end
-left : (c : tie.In-loop Inv-loop μ-loop) → c .before .loop .k < c .before .before .before .before .before .args .count
-left c =
-    let start = c .before .before .before .before .before in
-    let so-far = c .before .loop .inv in
-    underway-left (start .pre .0) so-far (c .loop-test .taken) (omega (arith, so-far .within, start .fits .cover .fits))
-
--- the place that stands next in the order is one of the places
-place : (c : tie.After-wide Inv-loop μ-loop) → (c .wide .result < c .before .before .before .before .before .before .before .args .count) × (c .wide .result < 64)
-place c =
-    let start = c .before .before .before .before .before .before .before in
-    omega (arith, c .wide .ensures, start .pre .0 .few, start .pre .0 .places (c .before .before .before .loop .k) (left (c .before .before)))
-
-loop-holds : tie.Need-loop-holds Inv-loop μ-loop
-loop-holds c =
-    let start = c .before .before .before in
-    underway-none (start .pre .0) refl (zeros 64) (start .pre .1)
-
-shared-slice-read-wide : tie.Need-shared-slice-read-wide Inv-loop μ-loop
-shared-slice-read-wide c = omega (arith, left (c .before), c .before .before .before .before .before .before .pre .0 .few, c .before .before .before .before .before .before .pre .0 .order-count)
-
-wide-requires : tie.Need-wide-requires Inv-loop μ-loop
-wide-requires c κs = search needs
-
-add-k : tie.Need-add-k Inv-loop μ-loop
-add-k c = search needs
-
-is-set-requires : tie.Need-is-set-requires Inv-loop μ-loop
-is-set-requires c κs = place c .1
-
-mul-shared : tie.Need-mul-shared Inv-loop μ-loop
-mul-shared c = omega (arith, place (c .before .before))
-
-shared-slice-read-shared : tie.Need-shared-slice-read-shared Inv-loop μ-loop
-shared-slice-read-shared c = omega (arith, place (c .before .before .before), c .before .before .before .before .before .before .before .before .before .before .pre .0 .row-count)
-
-shared-requires : tie.Need-shared-requires Inv-loop μ-loop
-shared-requires c κs = search needs
-
-mul-sums : tie.Need-mul-sums Inv-loop μ-loop
-mul-sums c = omega (arith, place (c .before .before .before .before))
-
-shared-slice-read-sums : tie.Need-shared-slice-read-sums Inv-loop μ-loop
-shared-slice-read-sums c = omega (arith, place (c .before .before .before .before .before), c .before .before .before .before .before .before .before .before .before .before .before .before .pre .0 .size-count)
-
-largest-at-requires : tie.Need-largest-at-requires Inv-loop μ-loop
+largest-at-requires : tie.Need-largest-at-requires
 largest-at-requires c κs = search needs
 
-add-sums : tie.Need-add-sums Inv-loop μ-loop
-add-sums c =
-    let ready = c .before .before .before .before .before .before .before .before .before .before .before .before .before .before .pre .0 in
-    let so-far = c .before .before .before .before .before .before .before .before .before .before .loop .inv in
-    omega (
-      arith,
-      ready .few,
-      ready .light (c .before .before .before .before .before .before .before .wide .result) (place (c .before .before .before .before .before .before .before) .0),
-      so-far .count,
-      largest-light (65535 * c .before .before .before .before .before .before .before .before .before .before .loop .k) (c .largest-at .ensures) (so-far .light),
-    )
-
-mul-sums-2 : tie.Need-mul-sums-2 Inv-loop μ-loop
-mul-sums-2 c = omega (arith, place (c .before .before .before .before .before .before .before))
-
-array-write-sums : tie.Need-array-write-sums Inv-loop μ-loop
-array-write-sums c = place (c .before .before .before .before .before .before .before) .1
-
-without-requires : tie.Need-without-requires Inv-loop μ-loop
-without-requires c κs = (place (c .before .before .before .before .before .before .before) .1, sym (c .before .before .before .before .before .before .is-set .ensures) ∙ c .before .before .before .before .before .if1 .taken)
-
-loop-less : tie.Need-loop-less Inv-loop μ-loop
-loop-less c = omega (arith, left (c .before .before .before .before .before .before .before .before .before .before))
-
-loop-again : tie.Need-loop-again Inv-loop μ-loop
-loop-again c =
-    let start = c .before .before .before .before .before .before .before .before .before .before .before .before .before .before .before in
-    rw (c .before .before .before .before .before .before .before .before .wide .ensures)
-    (underway-take (start .pre .0) (c .before .before .before .before .before .before .before .before .before .before .before .loop .inv) (left (c .before .before .before .before .before .before .before .before .before .before))
-    (rw (c .before .before .before .before .before .before .before .before .wide .ensures) at (sym (c .before .before .before .before .before .before .before .is-set .ensures) ∙ c .before .before .before .before .before .before .if1 .taken))
-    (rw (c .before .before .before .before .before .before .before .before .wide .ensures) at (c .before .before .before .before .shared .ensures))
-    (c .before .largest-at .ensures)
-    (rw (c .before .before .before .before .before .before .before .before .wide .ensures) at (c .without .ensures)))
-
-loop-less-2 : tie.Need-loop-less-2 Inv-loop μ-loop
-loop-less-2 c = omega (arith, left (c .before .before .before .before))
-
-loop-again-2 : tie.Need-loop-again-2 Inv-loop μ-loop
-loop-again-2 c =
-    let start = c .before .before .before .before .before .before .before .before .before in
-    underway-skip (start .pre .0) (c .before .before .before .before .before .loop .inv) (left (c .before .before .before .before))
-    (rw (c .before .before .wide .ensures) at (sym (c .before .is-set .ensures) ∙ c .if1 .left))
-
-largest-at-requires-2 : tie.Need-largest-at-requires-2 Inv-loop μ-loop
-largest-at-requires-2 c κs = search needs
-
-returns : tie.Need-returns Inv-loop μ-loop
+returns : tie.Need-returns
 returns c =
-    underway-all (c .before .before .before .loop .inv) (omega (arith, c .before .before .loop-test .left)) (c .largest-at2 .ensures)
+    let made = c .before .before in
+    let a = made .before .before .before .before .before .args in
+    let all = made .before .all-below .result in
+    largest-all (a .count) (cell (a .rows .now)) all (sizeIn (a .sizes .now)) (c .largest-at .result) (made .before .all-below .ensures)
+    (sums-bound (a .count) (a .rows .now) (a .sizes .now) all (made .path-sums .ensures) (c .largest-at .ensures))
 
 pub path-bound-spec : {M : Type 1} → statement M
 path-bound-spec =
     tie.close
     (tie.spec
-    Inv-loop
-    μ-loop
-    loop-holds
-    shared-slice-read-wide
-    wide-requires
-    add-k
-    is-set-requires
-    mul-shared
-    shared-slice-read-shared
-    shared-requires
-    mul-sums
-    shared-slice-read-sums
+    all-below-requires
+    path-sums-requires
     largest-at-requires
-    add-sums
-    mul-sums-2
-    array-write-sums
-    without-requires
-    loop-less
-    loop-again
-    loop-less-2
-    loop-again-2
-    largest-at-requires-2
     returns)

@@ -34,7 +34,7 @@ use denote.Triple.Entry.{onEntry}
 use denote.Triple.Spec.{tripleOf}
 use denote.Triple.Clauses.{ensured, lasts}
 use Rattle.rules.specs.Blocks.{recordAt, recordCount, records}
-use Rattle.image.specs.Met.{past}
+use Rattle.image.specs.InTurn.{past}
 use Rattle.image.specs.declared.reader.Reader.{Reader}
 use Rattle.image.proofs.reader.Reader as T
 use Rattle.image.proofs.reader.Reader.Laws as T′
