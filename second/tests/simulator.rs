@@ -96,8 +96,9 @@ fn times_of_the_table_count_as_many_moments_as_a_unit_has() {
         instances: nested().map(thrice).to_vec(),
     };
     assert_eq!(keeps(&figure2(), &fine(3)), Ok(()));
-    assert!(keeps(&figure2(), &fine(2)).is_err());
-    assert!(keeps(&figure2(), &fine(4)).is_err());
+    let rule = |grain| keeps(&figure2(), &fine(grain)).map_err(|breach| breach.rule);
+    assert_eq!(rule(2), Err(Rule::Response));
+    assert_eq!(rule(4), Err(Rule::Offset));
 }
 
 #[test]
@@ -241,7 +242,7 @@ fn arrivals(given: &[(usize, u64, u64)]) -> Vec<Arrival> {
 
 /// The places with start and finish, in the order of the starts.
 fn times(table: &Table, given: &[(usize, u64, u64)]) -> Vec<(usize, u64, u64)> {
-    let (mut instances, _) = run_all(table, arrivals(given));
+    let mut instances = run_all(table, arrivals(given)).instances;
     instances.sort_by_key(|instance| instance.start);
     let times = |instance: &Instance| (instance.place, instance.start, instance.finish);
     instances.iter().map(times).collect()
@@ -262,6 +263,13 @@ fn the_kernel_nests_by_priority() {
 }
 
 #[test]
+fn the_kernel_waits_where_nothing_is_released() {
+    let given = [(0, 3, 2), (1, 90, 1), (0, 91, 1)];
+    let apart = [(0, 3, 5), (1, 90, 91), (0, 91, 92)];
+    assert_eq!(times(&of_priorities(&[1, 2], &[]), &given), apart);
+}
+
+#[test]
 fn the_kernel_is_first_in_first_out_within_a_priority() {
     let given = [(0, 5, 4), (1, 0, 3), (2, 1, 3), (0, 2, 2)];
     let one_by_one = [(1, 0, 3), (2, 3, 6), (0, 6, 8), (0, 8, 12)];
@@ -279,8 +287,7 @@ fn nothing_starts_before_a_more_urgent_one_that_waits() {
 
 /// What held instances back where task 2 is released while task 1 runs.
 fn held_back(table: &Table) -> HeldBack {
-    let (_, held_back) = run_all(table, arrivals(&[(0, 0, 5), (1, 1, 1)]));
-    held_back
+    run_all(table, arrivals(&[(0, 0, 5), (1, 1, 1)])).held_back
 }
 
 #[test]
@@ -289,12 +296,27 @@ fn the_kernel_keeps_to_thresholds_and_pairs() {
     assert_eq!(held_back(&plain), HeldBack::default());
     let mut with_threshold = plain.clone();
     with_threshold.tasks[0].threshold = 2;
-    assert!(held_back(&with_threshold).by_threshold);
-    assert!(held_back(&of_priorities(&[1, 2], &[one_way(1, 2)])).by_one_way);
+    let by_threshold = HeldBack {
+        by_threshold: true,
+        ..HeldBack::default()
+    };
+    let by_one_way = HeldBack {
+        by_one_way: true,
+        ..HeldBack::default()
+    };
+    let by_precedence = HeldBack {
+        by_precedence: true,
+        ..HeldBack::default()
+    };
+    assert_eq!(held_back(&with_threshold), by_threshold);
+    assert_eq!(
+        held_back(&of_priorities(&[1, 2], &[one_way(1, 2)])),
+        by_one_way
+    );
     let backwards = of_priorities(&[1, 2], &[one_way(2, 1)]);
     assert_eq!(held_back(&backwards), HeldBack::default());
     for pair in [precedence(1, 2), precedence(2, 1)] {
-        assert!(held_back(&of_priorities(&[1, 2], &[pair])).by_precedence);
+        assert_eq!(held_back(&of_priorities(&[1, 2], &[pair])), by_precedence);
     }
 }
 

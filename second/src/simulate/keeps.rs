@@ -1,4 +1,5 @@
-//! Whether a run keeps to a table: what the bound takes for granted of the kernel and of the measured times.
+//! Whether a run keeps to a table: what the bound takes for granted of the kernel and of the measured times, as
+//! `KeepsTo` of the definitions has it.
 
 use std::fmt;
 
@@ -69,8 +70,8 @@ impl fmt::Display for Breach {
 
 /// Refuses a run that does not keep to the table.
 pub fn keeps(table: &Table, run: &Run) -> Result<(), Breach> {
-    let in_time = |instance| keeps_its_times(table, run.grain, instance);
-    run.instances.iter().try_for_each(in_time)?;
+    let keeps_times = |instance| keeps_its_times(table, run.grain, instance);
+    run.instances.iter().try_for_each(keeps_times)?;
     keeps_periods(table, run)?;
     starts_one_by_one(table, run)?;
     run.nestings()
@@ -89,7 +90,7 @@ fn hold(table: &Table, instance: &Instance, rule: Rule, holds: bool) -> Result<(
     }
 }
 
-/// Point 1: the times of one instance by itself.
+/// The times of one instance by itself.
 fn keeps_its_times(table: &Table, grain: u64, instance: &Instance) -> Result<(), Breach> {
     let task = &table.tasks[instance.place];
     let after = |units: u64| instance.activation + units * grain;
@@ -103,7 +104,7 @@ fn keeps_its_times(table: &Table, grain: u64, instance: &Instance) -> Result<(),
     hold(Rule::Response, done)
 }
 
-/// Point 2, first half: the activations of each transaction.
+/// The activations of each transaction.
 fn keeps_periods(table: &Table, run: &Run) -> Result<(), Breach> {
     for transaction in &table.transactions {
         let period = u64::from(transaction.period) * run.grain;
@@ -119,7 +120,7 @@ fn keeps_periods(table: &Table, run: &Run) -> Result<(), Breach> {
     Ok(())
 }
 
-/// Point 2, second half: one start a moment.
+/// One start a moment.
 fn starts_one_by_one(table: &Table, run: &Run) -> Result<(), Breach> {
     let mut in_order: Vec<&Instance> = run.instances.iter().collect();
     in_order.sort_by_key(|instance| instance.start);
@@ -129,7 +130,7 @@ fn starts_one_by_one(table: &Table, run: &Run) -> Result<(), Breach> {
     })
 }
 
-/// Point 3: what an instance that starts must find with each that has started and not finished.
+/// What an instance that starts must find with each that has started and not finished.
 fn preempts_by_the_rules(table: &Table, nesting: &Nesting) -> Result<(), Breach> {
     let upper = &nesting.started;
     let hold = |rule, holds| hold(table, upper, rule, holds);

@@ -24,7 +24,8 @@ pub struct Arrival {
     pub work: u64,
 }
 
-/// What kept an instance from starting at some moment of a run, and kept it by itself.
+/// What kept an instance from starting at some moment of a run: what is asked first, of thresholds, then of pairs in the
+/// table's order.
 #[derive(Clone, Copy, PartialEq, Eq, Debug, Default)]
 pub struct HeldBack {
     /// A threshold: the instance was more urgent than all on the stack.
@@ -35,8 +36,16 @@ pub struct HeldBack {
     pub by_precedence: bool,
 }
 
+/// What the kernel has done with all that arrived.
+pub struct Ran {
+    pub instances: Vec<Instance>,
+    pub held_back: HeldBack,
+    /// The most bytes that were on its stack at once.
+    pub deepest_bytes: u64,
+}
+
 /// Runs all that arrives to its end.
-pub fn run_all(table: &Table, mut arrivals: Vec<Arrival>) -> (Vec<Instance>, HeldBack) {
+pub fn run_all(table: &Table, mut arrivals: Vec<Arrival>) -> Ran {
     arrivals.sort_by_key(|arrival| arrival.release);
     let mut kernel = Kernel::new(table);
     let mut coming = arrivals.into_iter().peekable();
@@ -52,7 +61,11 @@ pub fn run_all(table: &Table, mut arrivals: Vec<Arrival>) -> (Vec<Instance>, Hel
         kernel.work(moment);
         moment += 1;
     }
-    (kernel.finished, kernel.held_back)
+    Ran {
+        instances: kernel.finished,
+        held_back: kernel.held_back,
+        deepest_bytes: kernel.deepest_bytes,
+    }
 }
 
 /// What stands in the way of a start.
@@ -82,6 +95,7 @@ struct Kernel<'table> {
     stack: Vec<Started>,
     finished: Vec<Instance>,
     held_back: HeldBack,
+    deepest_bytes: u64,
 }
 
 impl<'table> Kernel<'table> {
@@ -93,6 +107,7 @@ impl<'table> Kernel<'table> {
             stack: Vec::new(),
             finished: Vec::new(),
             held_back: HeldBack::default(),
+            deepest_bytes: 0,
         }
     }
 
@@ -122,8 +137,14 @@ impl<'table> Kernel<'table> {
                     start: moment,
                     left: arrival.work,
                 });
+                self.deepest_bytes = self.deepest_bytes.max(self.bytes_on_stack());
             }
         }
+    }
+
+    fn bytes_on_stack(&self) -> u64 {
+        let size = |one: &Started| u64::from(self.table.tasks[one.arrival.place].stack);
+        self.stack.iter().map(size).sum()
     }
 
     /// The top of the stack executes for a moment, and leaves the stack when its work is done.

@@ -86,20 +86,27 @@ pub fn systems(seed: u64) -> impl Iterator<Item = Result<Simulated, String>> {
 fn simulate_one(random: &mut Random) -> Result<Simulated, String> {
     let system = draw_system(random);
     let arrivals = draw_arrivals(random, &system);
-    let (instances, held_back) = run_all(&system.table, arrivals);
+    let ran = run_all(&system.table, arrivals);
     let run = Run {
         grain: system.grain,
-        instances,
+        instances: ran.instances,
     };
     let table = with_responses(system.table, &run);
     keeps(&table, &run).map_err(|breach| breach.to_string())?;
+    let deepest = run.deepest(&table);
+    if deepest.bytes != ran.deepest_bytes {
+        return Err(format!(
+            "the kernel had {} bytes on its stack, and the run has {}",
+            ran.deepest_bytes, deepest.bytes
+        ));
+    }
     Ok(Simulated {
         bound: chain_bound(&table)?,
-        deepest: run.deepest(&table),
+        deepest,
         preemptions: run.preemptions(),
         table,
         run,
-        held_back,
+        held_back: ran.held_back,
     })
 }
 
