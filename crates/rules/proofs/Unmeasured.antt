@@ -7,13 +7,12 @@ use native.Mathlib.Nat.{mod-lt}
 use native.Mathlib.Omega.{arith}
 use borrow.Author.Tests.{lt-ltb, eq-eqb, eqb-true, eqb-false, ne-eqb}
 use lib.Dec.{eqb}
-use lib.ListN.{getD}
 use Rattle.rules.specs.declared.Reason.{Reason}
 use Rattle.rules.specs.declared.Reason.the-variants.{Jitter, Priority, Pair}
 use Rattle.rules.specs.declared.Task.{Task}
 use Rattle.rules.specs.Numbers.{Bytes, le4}
 use Rattle.rules.specs.Blocks.{records}
-use Rattle.rules.specs.Records.{unmeasured, jitterOf, tasks, taskCount, taskAt, periodIn, periodAt}
+use Rattle.rules.specs.Records.{unmeasured, jitterOf, taskCount, taskAt, periodIn, periodAt, jitterMissing}
 use Rattle.rules.specs.Reasons.{told}
 use Rattle.rules.specs.Preempt.{distance, jitterReaches, yields, reason, mayPreempt, barred, reasonAt, decided, cell, mapOf}
 use Rattle.rules.specs.Patches.{same}
@@ -27,7 +26,7 @@ use Rattle.rules.proofs.Patch.Members.{same-other}
 
 -- the record of the task at place j leaves its jitter out
 abbrev pub Unmeasured : List (List ℕ) → ℕ → Type 0
-Unmeasured rs j = unmeasured (le4 (getD (tasks rs) j []) 12) ≡ true
+Unmeasured rs j = jitterMissing rs j ≡ true
 
 -- the jitter is then the period
 pub unmeasured-period : (rs : List (List ℕ)) (j : ℕ) → Unmeasured rs j → taskAt rs j .jitter ≡ periodAt rs j

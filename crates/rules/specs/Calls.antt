@@ -30,7 +30,8 @@ over values buffer = values ++ drop (length values) buffer
 abbrev pub after : Verdict → List ℕ → List ℕ → List ℕ
 after v values buffer = cond (accepted v) (over values buffer) buffer
 
--- an image is written from records that lie one after another in a list of bytes, 32 bytes each
+-- writing an image of records, which the calls below do: the records that lie one after another in a list of bytes, 32 bytes
+-- each
 abbrev pub cut : List ℕ → List (List ℕ)
 cut flat = upTo (λ k. take 32 (drop (32 * k) flat)) (length flat / 32)
 
@@ -119,10 +120,11 @@ reasonAnswer image low high =
     (record { number = 0; place = 0; reason = told (reasonAt rs (placeOf (tasks rs) low) (placeOf (tasks rs) high)) .number })
     (reasonRefusal (reasonVerdict image low high))
 
--- a patch call answers 1-8 for the base, then 21-27, 9, 10, 11
+-- the outcome's length in bytes
 abbrev pub outcomeLength : List ℕ → List ℕ → ℕ
 outcomeLength base patch = 512 * blocksFor (length (outcome (records base) (records patch)))
 
+-- a patch call answers 1-8 for the base, then 21-27, 9, 10, 11
 unfoldable pub patchCallVerdict : List ℕ → List ℕ → List ℕ → List ℕ → List ℕ → Verdict
 patchCallVerdict base patch rows room newRows =
     orElse (tableVerdict base)
@@ -131,6 +133,7 @@ patchCallVerdict base patch rows room newRows =
     (orElse (outcomeRefusal (records base) (records patch))
     (shortRefusal (ltb (length rows) 64 || (ltb (length newRows) 64 || ltb (length room) (outcomeLength base patch)))))))
 
+-- a refused patch call, and an accepted one
 abbrev pub patchRefusal : Verdict → Patched
 patchRefusal v = record { number = v .number; place = v .place; touched = 0; length = 0 }
 

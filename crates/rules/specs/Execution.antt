@@ -5,17 +5,15 @@ use mathlib.Core.List.{List, [], _∷_}
 use mathlib.Core.Bool.{Bool, true, false, cond, _&&_}
 use mathlib.Core.Logic.{_⊎_}
 use mathlib.Core.Path.{_≡_}
-use lib.ListN.{getD}
 use lib.Dec.{leb, ltb}
 use Rattle.rules.specs.declared.Task.{Task}
 use Rattle.rules.specs.declared.Bounds.{Bounds}
-use Rattle.rules.specs.Numbers.{le4}
-use Rattle.rules.specs.Records.{unmeasured, tasks, taskCount, taskAt, periodAt}
+use Rattle.rules.specs.Records.{taskCount, taskAt, periodAt, jitterMissing}
 use Rattle.rules.specs.Preempt.{yields, barred}
 
 -- an instance of the task at a place of the table: when its transaction was activated (alpha), and when it was released
--- (rt), started (st) and finished (ft); real instants are no whole numbers of the table's unit, so times count in one that
--- is q times finer
+-- (rt), started (st) and finished (ft). A run's instants need not be whole numbers of the table's unit, so they count in one
+-- that is q times finer, for any q
 pub record Instance : Type 0 where
   pub place : ℕ
   pub activated : ℕ
@@ -23,7 +21,8 @@ pub record Instance : Type 0 where
   pub started : ℕ
   pub finished : ℕ
 
--- a run is a list of instances, in any order, as by any moment only finitely many have started: v is one of them
+-- a run is a list of instances, in any order; by any moment only finitely many have started
+-- v is one of the run
 infix 20 _∈_
 abbrev pub _∈_ : Instance → List Instance → Type 0
 v ∈ [] = ⊥
@@ -33,25 +32,26 @@ v ∈ (w ∷ run) = (v ≡ w) ⊎ (v ∈ run)
 pub record InTime (q : ℕ) (missing : Bool) (i : Task) (v : Instance) : Type 0 where
   -- (5): it starts no earlier than O after its activation
   pub from-offset : v .activated + q * i .offset ≤ v .started
-  -- (6): it is released by O + J after its activation, and where J is missing at any time
+  -- (6): it is released by O + J after its activation; nothing is asked where J is missing
   pub within-jitter : missing ≡ false → v .released ≤ v .activated + q * (i .offset + i .jitter)
   -- it starts no earlier than it is released
   pub from-release : v .released ≤ v .started
   -- it has finished by R after its activation: R counts from there, and not from O
   pub within-response : v .finished ≤ v .activated + q * i .response
 
--- w starts while v has started and not finished
-pub record StartsWithin (v w : Instance) : Type 0 where
-  pub after : v .started < w .started
-  pub before : w .started < v .finished
+-- v has started and not finished when w starts
+pub record UnfinishedAt (v w : Instance) : Type 0 where
+  pub earlier : v .started < w .started
+  pub unfinished : w .started < v .finished
 
--- what is then asked of v, an instance of task i, and w, one of task j; barred says that a pair forbids it
-pub record Preempts (barred : Bool) (i j : Task) (v w : Instance) : Type 0 where
+-- then v is preempted by w, and this is asked of v, an instance of task i, and w, one of task j; forbidden says that a pair
+-- forbids it
+pub record PreemptedBy (forbidden : Bool) (i j : Task) (v w : Instance) : Type 0 where
   -- the threshold of i is below the priority of j
   pub yielding : yields i j ≡ true
   -- no pair forbids it
-  pub allowed : barred ≡ false
-  -- v started before w was released: under an early-blocking protocol it could not start while w waits
+  pub allowed : forbidden ≡ false
+  -- v started before w was released, as an early-blocking protocol has it: nothing that w preempts starts while w waits
   pub unblocked : v .started < w .released
   -- w finishes no later than v
   pub inside : w .finished ≤ v .finished
@@ -61,29 +61,26 @@ abbrev pub OneByOne : List Instance → Type 0
 OneByOne [] = Unit {0}
 OneByOne (v ∷ run) = ((w : Instance) → w ∈ run → v .started ≡ w .started → ⊥) × OneByOne run
 
--- the task of an instance, and whether its jitter is missing
+-- the task of an instance
 abbrev pub taskIn : List (List ℕ) → Instance → Task
 taskIn rs v = taskAt rs (v .place)
-
-abbrev pub jitterMissing : List (List ℕ) → Instance → Bool
-jitterMissing rs v = unmeasured (le4 (getD (tasks rs) (v .place) []) 12)
 
 -- a run keeps to a table
 pub record KeepsTo (q : ℕ) (rs : List (List ℕ)) (run : List Instance) : Type 0 where
   -- each instance is one of a task of the table
   pub known : (v : Instance) → v ∈ run → v .place < taskCount rs
   -- and in time
-  pub in-time : (v : Instance) → v ∈ run → InTime q (jitterMissing rs v) (taskIn rs v) v
+  pub in-time : (v : Instance) → v ∈ run → InTime q (jitterMissing rs (v .place)) (taskIn rs v) v
   -- of two activations of one transaction the later is at least T after the earlier
   pub periodic :
       (v w : Instance) → v ∈ run → w ∈ run → taskIn rs v .transaction ≡ taskIn rs w .transaction
       → v .activated < w .activated → v .activated + q * periodAt rs (v .place) ≤ w .activated
   -- instances start one by one
   pub one-by-one : OneByOne run
-  -- and one starts within another only where it preempts it
-  pub preempts :
-      (v w : Instance) → v ∈ run → w ∈ run → StartsWithin v w
-      → Preempts (barred rs (taskIn rs v .id) (taskIn rs w .id)) (taskIn rs v) (taskIn rs w) v w
+  -- and an instance that is unfinished when another starts is preempted by it
+  pub preempted :
+      (v w : Instance) → v ∈ run → w ∈ run → UnfinishedAt v w
+      → PreemptedBy (barred rs (taskIn rs v .id) (taskIn rs w .id)) (taskIn rs v) (taskIn rs w) v w
 
 -- an instance has started and not finished at moment m
 abbrev pub active : ℕ → Instance → Bool
@@ -94,7 +91,7 @@ abbrev pub onStack : List (List ℕ) → ℕ → List Instance → ℕ
 onStack rs m [] = 0
 onStack rs m (v ∷ run) = cond (active m v) (taskIn rs v .size) 0 + onStack rs m run
 
--- Theorem 1: at every moment of the run each of the four bounds is enough for what is on the stack
+-- what Theorem 1 says: at every moment of the run each of the four bounds is enough for what is on the stack
 pub record Enough (rs : List (List ℕ)) (run : List Instance) (b : Bounds) : Type 0 where
   pub chain : (m : ℕ) → onStack rs m run ≤ b .chain
   pub path : (m : ℕ) → onStack rs m run ≤ b .path

@@ -154,6 +154,10 @@ periodAt rs i = periodIn rs (secondOf (getD (tasks rs) i []))
 abbrev pub taskAt : List (List ℕ) → ℕ → Task
 taskAt rs i = taskOf (periodAt rs i) (getD (tasks rs) i [])
 
+-- the record of the task at place i leaves its jitter out
+abbrev pub jitterMissing : List (List ℕ) → ℕ → Bool
+jitterMissing rs i = unmeasured (le4 (getD (tasks rs) i []) 12)
+
 -- at most 16 transactions, 64 tasks, 256 pairs
 abbrev pub mostOf : ℕ → ℕ
 mostOf k = cond (eqb k 1) 16 (cond (eqb k 2) 64 256)

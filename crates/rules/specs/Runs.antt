@@ -42,6 +42,10 @@ unfoldable pub calls : State → List Step → State
 calls s [] = s
 calls s (p ∷ ps) = calls (called s p) ps
 
+-- the state that a run of calls leaves of a table and its map
+abbrev pub leftAfter : List ℕ → List ℕ → List Step → State
+leftAfter image rows ps = calls (record { image = image; rows = rows }) ps
+
 -- worked out afresh: the image of the records, and the map of that table over the start of the rows that were lent for it
 abbrev pub afresh : List (List ℕ) → List ℕ → State
 afresh rs rows = record { image = imageOf Table rs; rows = over (mapOf rs) rows }

@@ -14,8 +14,8 @@ use image::records::record_at;
 use preempt::bits::members;
 use table::count::count_kind;
 
-// For each transaction of an accepted table the path bound of the tasks with its number, added up. No task has two numbers,
-// so one array of best sums serves all transactions and is handed on from each to the next.
+// For each transaction of an accepted table the path bound of the tasks with its number, added up. One array of best sums is
+// handed on from each transaction to the next, since each fills in its own places before it reads them.
 pub fn transaction_bound(
     image: &[u8],
     numbers: &[u32],

@@ -4,11 +4,14 @@ use mathlib.Core.List.{List, [], _∷_}
 use mathlib.Core.Bool.{true}
 use mathlib.Core.Path.{_≡_, refl, ap, sym, _∙_}
 use native.Mathlib.Omega.{arith}
-use Rattle.rules.specs.Numbers.{lowest}
-use Rattle.rules.specs.Records.{ofKind}
+use Rattle.rules.specs.declared.Form.the-variants.{Table}
+use Rattle.rules.specs.Numbers.{upTo, sumTo, lowest, blank}
+use Rattle.rules.specs.Blocks.{checkOf, headerWrong, blockOf, records, imageOf}
+use Rattle.rules.specs.Records.{ofKind, formWrong, rangeWrong, tooMany, referenceWrong}
 use Rattle.rules.specs.Preempt.{yields, barred, mapOf}
 use Rattle.rules.specs.Chains.{Figures, FiguresOf, chainBound}
-use Rattle.rules.specs.Execution.{Instance, Preempts, taskIn, KeepsTo, onStack}
+use Rattle.rules.specs.Refusals.{accepted, frameVerdict, recordsVerdict, tableVerdict}
+use Rattle.rules.specs.Execution.{Instance, PreemptedBy, taskIn, KeepsTo, onStack}
 use Rattle.rules.proofs.FourBounds.Unique.{figures-unique}
 use Rattle.rules.proofs.Cases.{figure2, starred}
 use Rattle.rules.proofs.Enough.Instances.{each-at, each-two}
@@ -28,9 +31,18 @@ figure2Run = of11 ∷ of12 ∷ of23 ∷ []
 
 -- the table has no pairs: two of them nest where priority and times allow it
 nests : (v w : Instance) → yields (taskIn figure2 v) (taskIn figure2 w) ≡ true → v .started < w .released → w .finished ≤ v .finished
-    → Preempts (barred figure2 (taskIn figure2 v .id) (taskIn figure2 w .id)) (taskIn figure2 v) (taskIn figure2 w) v w
+    → PreemptedBy (barred figure2 (taskIn figure2 v .id) (taskIn figure2 w .id)) (taskIn figure2 v) (taskIn figure2 w) v w
 unfolding lowest ofKind barred
 nests v w yielding unblocked inside = record { yielding = yielding; allowed = refl; unblocked = unblocked; inside = inside }
+
+-- the image of figure 2 is accepted, and has its records
+pub figure2-accepted : accepted (tableVerdict (imageOf Table figure2)) ≡ true
+unfolding upTo sumTo lowest blank checkOf headerWrong blockOf ofKind formWrong rangeWrong tooMany referenceWrong frameVerdict recordsVerdict tableVerdict
+figure2-accepted = refl
+
+pub figure2-records : records (imageOf Table figure2) ≡ figure2
+unfolding upTo sumTo lowest blank checkOf headerWrong blockOf
+figure2-records = refl
 
 -- it keeps to the table
 pub figure2-keeps : KeepsTo 1 figure2 figure2Run
@@ -44,7 +56,7 @@ figure2-keeps =
         each-at _ (of12 ∷ of23 ∷ []) (omega arith),
         (each-at _ (of23 ∷ []) (omega arith), (each-at _ [] tt, tt)),
       );
-      preempts =
+      preempted =
           each-two _ figure2Run (
             (λ h. absurd (omega arith), (λ h. nests of11 of12 refl (omega arith) (omega arith), (λ h. nests of11 of23 refl (omega arith) (omega arith), tt))),
             (

@@ -9,9 +9,9 @@ use native.Mathlib.Omega.{arith}
 use borrow.Author.Tests.{ltb-true, ltb-false, lt-ltb, eqb-true}
 use lib.Dec.{ltb, eqb}
 use Rattle.rules.specs.declared.Task.{Task}
-use Rattle.rules.specs.Records.{periodIn, periodAt}
+use Rattle.rules.specs.Records.{periodIn, periodAt, jitterMissing}
 use Rattle.rules.specs.Preempt.{distance, jitterReaches, responseReaches, barred, decided}
-use Rattle.rules.specs.Execution.{Instance, _∈_, InTime, StartsWithin, Preempts, taskIn, jitterMissing, KeepsTo}
+use Rattle.rules.specs.Execution.{Instance, _∈_, InTime, UnfinishedAt, PreemptedBy, taskIn, KeepsTo}
 use Rattle.rules.proofs.Numbers.{either}
 use Rattle.rules.proofs.Distance.{distance-above, distance-below}
 use Rattle.rules.proofs.Reasons.{may-preempt-was}
@@ -24,7 +24,7 @@ module _ (q T : ℕ) (i j : Task) (lower : i .offset < T) (upper : j .offset < T
     (time : InTime q missing i v) (time′ : InTime q missing′ j w) (measured : missing′ ≡ false)
     (apart : v .activated < w .activated → v .activated + q * T ≤ w .activated)
     (apart′ : w .activated < v .activated → w .activated + q * T ≤ v .activated)
-    (within : StartsWithin v w) (p : Preempts barred i j v w) where
+    (within : UnfinishedAt v w) (p : PreemptedBy barred i j v w) where
   -- the last line of (8)
   abbrev Reaches : Type 0
   Reaches = (jitterReaches T i j || responseReaches T i j) ≡ true
@@ -72,20 +72,20 @@ module _ (q T : ℕ) (i j : Task) (lower : i .offset < T) (upper : j .offset < T
 
 -- two instances of a run that keeps to a table, of which w starts within v
 module _ (q : ℕ) (rs : List (List ℕ)) (named : Listed rs) (run : List Instance) (keeps : KeepsTo q rs run)
-    (v w : Instance) (one : v ∈ run) (other : w ∈ run) (within : StartsWithin v w) where
-  preempting : Preempts (barred rs (taskIn rs v .id) (taskIn rs w .id)) (taskIn rs v) (taskIn rs w) v w
-  preempting = keeps .preempts v w one other within
+    (v w : Instance) (one : v ∈ run) (other : w ∈ run) (within : UnfinishedAt v w) where
+  preempting : PreemptedBy (barred rs (taskIn rs v .id) (taskIn rs w .id)) (taskIn rs v) (taskIn rs w) v w
+  preempting = keeps .preempted v w one other within
 
   -- in one transaction
   together : taskIn rs v .transaction ≡ taskIn rs w .transaction
       → (jitterReaches (periodAt rs (v .place)) (taskIn rs v) (taskIn rs w) || responseReaches (periodAt rs (v .place)) (taskIn rs v) (taskIn rs w)) ≡ true
   together same =
       let period : periodAt rs (v .place) ≡ periodAt rs (w .place) = ap (periodIn rs) same in
-      either (jitterMissing rs w)
+      either (jitterMissing rs (w .place))
       (λ missing. rw (unmeasured-reaches rs named (v .place) (w .place) (keeps .known v one) missing same))
       (λ measured.
       four-cases q (periodAt rs (v .place)) (taskIn rs v) (taskIn rs w) (named .offset-below (v .place) (keeps .known v one))
-      (rw period (named .offset-below (w .place) (keeps .known w other))) v w (jitterMissing rs v) (jitterMissing rs w)
+      (rw period (named .offset-below (w .place) (keeps .known w other))) v w (jitterMissing rs (v .place)) (jitterMissing rs (w .place))
       (barred rs (taskIn rs v .id) (taskIn rs w .id)) (keeps .in-time v one) (keeps .in-time w other) measured
       (keeps .periodic v w one other same) (λ h. rw period (keeps .periodic w v other one (sym same) h)) within preempting)
 

@@ -8,7 +8,7 @@ use native.Mathlib.Omega.{arith}
 use borrow.Author.Tests.{ltb-true, ltb-false, leb-true}
 use lib.Dec.{leb, ltb}
 use Rattle.rules.specs.Chains.{weight, sizeAt}
-use Rattle.rules.specs.Execution.{Instance, _∈_, StartsWithin, OneByOne, active, onStack}
+use Rattle.rules.specs.Execution.{Instance, _∈_, UnfinishedAt, OneByOne, active, onStack}
 use Rattle.rules.proofs.Numbers.{either}
 use Rattle.rules.proofs.Tests.{both-first, both-second}
 use Rattle.rules.proofs.Enough.Instances.{Each, each-then, each-with, each-one}
@@ -31,7 +31,7 @@ places (v ∷ c) = v .place ∷ places c
 -- a preemption chain as Lemma 1 has it: each starts within every one before it
 abbrev pub Nested : List Instance → Type 0
 Nested [] = Unit {0}
-Nested (v ∷ c) = Each (StartsWithin v) c × Nested c
+Nested (v ∷ c) = Each (UnfinishedAt v) c × Nested c
 
 -- what each has keeps where one more is put in, and where those at a moment are taken
 inserted-each : (P : Instance → Type 0) (v : Instance) (c : List Instance) → P v → Each P c → Each P (inserted v c)
@@ -98,7 +98,7 @@ inserted-nested m v (w ∷ c) there all apart nested =
     (λ t.
     let last : w .started < v .started = omega (arith, ltb-false (v .started) (w .started) t, apart .0) in
     rw t
-    (inserted-each (StartsWithin w) v c (omega arith) (nested .0), inserted-nested m v c there (all .1) (apart .1) (nested .1)))
+    (inserted-each (UnfinishedAt w) v c (omega arith) (nested .0), inserted-nested m v c there (all .1) (apart .1) (nested .1)))
 
 -- so those that are there at a moment are nested
 pub stacked-nested : (m : ℕ) (run : List Instance) → OneByOne run → Nested (stacked m run)

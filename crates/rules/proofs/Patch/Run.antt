@@ -17,7 +17,7 @@ use Rattle.rules.specs.Preempt.{decided, mapOf}
 use Rattle.rules.specs.Patches.{outcome, patchedMap}
 use Rattle.rules.specs.Refusals.{accepted, tableVerdict, patchVerdict, absentRefusal}
 use Rattle.rules.specs.Calls.{over, patchCallVerdict, BoundCall}
-use Rattle.rules.specs.Runs.{Step, State, called, calls, afresh, acceptable, afreshAfter, Demand3}
+use Rattle.rules.specs.Runs.{Step, State, called, calls, leftAfter, afresh, acceptable, afreshAfter, Demand3}
 use Rattle.rules.proofs.Numbers.{either}
 use Rattle.rules.proofs.Tests.{both-first, both-second}
 use Rattle.rules.proofs.Maps.{map-length}
@@ -174,10 +174,6 @@ demand3 image rows ps bytes table right =
     let same : image ≡ imageOf Table (records image) = sym (imageOf-records Table image bytes (frame-accepted Table image table)) in
     let start : record { image = image; rows = rows } ≡ afresh (records image) rows = λ i. record { image = same i; rows = right i } in
     ap (λ (s : State). calls s ps) start ∙ run-afresh (records image) rows ps (valid-of image table) (true-long (records image) rows right)
-
--- the state that a run of calls leaves
-abbrev pub leftAfter : List ℕ → List ℕ → List Step → State
-leftAfter image rows ps = calls (record { image = image; rows = rows }) ps
 
 -- what a run leaves of a valid table and its true map
 module _ (image rows : List ℕ) (ps : List Step) (bytes : Bytes image) (table : accepted (tableVerdict image) ≡ true) (right : rows ≡ over (mapOf (records image)) rows) where
