@@ -13,66 +13,65 @@ use Rattle.rules.proofs.Numbers.{sumTo-ext}
 use Rattle.rules.proofs.Maps.{map-ext}
 use Rattle.rules.proofs.Table.Shape.{Shape}
 use Rattle.preempt.specs.Bits.{column}
-use Rattle.preempt.specs.Tasks.{TasksRead, barredMap}
-use Rattle.preempt.specs.declared.tasks.Tasks.{Tasks}
+use Rattle.preempt.specs.Tasks.{TasksRead, idsIn, transactionsIn, barredMap}
 use Rattle.preempt.proofs.Columns.{column-at}
 use Rattle.preempt.proofs.Reading.{decided-read}
 use Rattle.patch.specs.Touched.{Marks, touchedAt}
-use Rattle.patch.specs.Carried.{carriedBy}
+use Rattle.patch.specs.Carried.{cellNew, carriedBy}
 
 -- base and patch, what was read of their outcome, the set of touched tasks and the old places
-module _ (base patch : List (List ℕ)) (t : Tasks) (barred old : List ℕ) (set : ℕ) (shape : Shape (outcome base patch)) (read : TasksRead (outcome base patch) t) (pairs-read : barred ≡ barredMap (outcome base patch)) (marked : Marks (t .count) (touchedAt patch (t .ids) (t .transactions)) set) (placed : old ≡ column (t .count) (λ i. placeOf (tasks base) (getD (t .ids) i 0))) where
+module _ (base patch : List (List ℕ)) (count : ℕ) (fields : List ℕ) (barred old : List ℕ) (set : ℕ) (shape : Shape (outcome base patch)) (read : TasksRead (outcome base patch) count fields) (pairs-read : barred ≡ barredMap (outcome base patch)) (marked : Marks count (touchedAt patch (idsIn fields) (transactionsIn fields)) set) (placed : old ≡ column count (λ i. placeOf (tasks base) (getD (idsIn fields) i 0))) where
   -- there are at most 64 tasks
-  pub few : t .count ≤ 64
+  pub few : count ≤ 64
   few = omega (arith, read .count, shape .few-tasks)
 
   -- the id that was read
-  id-read : (i : ℕ) → i < t .count → getD (t .ids) i 0 ≡ taskAt (outcome base patch) i .id
+  id-read : (i : ℕ) → i < count → getD (idsIn fields) i 0 ≡ taskAt (outcome base patch) i .id
   id-read i h =
-      ap (λ (l : List ℕ). getD l i 0) (read .ids)
+      ap (λ (l : List ℕ). getD l i 0) (read .columns .ids)
       ∙ column-at (taskCount (outcome base patch)) (λ j. taskAt (outcome base patch) j .id) i (shape .few-tasks) (omega (arith, read .count))
 
   -- and the transaction
-  transaction-read : (i : ℕ) → i < t .count → getD (t .transactions) i 0 ≡ taskAt (outcome base patch) i .transaction
+  transaction-read : (i : ℕ) → i < count → getD (transactionsIn fields) i 0 ≡ taskAt (outcome base patch) i .transaction
   transaction-read i h =
-      ap (λ (l : List ℕ). getD l i 0) (read .transactions)
+      ap (λ (l : List ℕ). getD l i 0) (read .columns .transactions)
       ∙ column-at (taskCount (outcome base patch)) (λ j. taskAt (outcome base patch) j .transaction) i (shape .few-tasks) (omega (arith, read .count))
 
   -- a place is in the set where its task is touched
-  touched-read : (i : ℕ) → i < t .count → bitAt set i ≡ touched base patch i
+  touched-read : (i : ℕ) → i < count → bitAt set i ≡ touched base patch i
   unfolding touched
   touched-read i h =
       marked i h
-      ∙ ap (λ (id : ℕ). some (λ k. concerns (getD patch k []) id (getD (t .transactions) i 0)) (length patch)) (id-read i h)
+      ∙ ap (λ (id : ℕ). some (λ k. concerns (getD patch k []) id (getD (transactionsIn fields) i 0)) (length patch)) (id-read i h)
       ∙ ap (λ (number : ℕ). some (λ k. concerns (getD patch k []) (taskAt (outcome base patch) i .id) number) (length patch)) (transaction-read i h)
 
   -- so as many are in it as are touched
-  pub touched-counted : countTo (bitAt set) (t .count) ≡ touchedCount base patch
+  pub touched-counted : countTo (bitAt set) count ≡ touchedCount base patch
   touched-counted =
-      sumTo-ext (λ i. cond (bitAt set i) 1 0) (λ i. cond (touched base patch i) 1 0) (t .count) (λ i h. ap (λ (b : Bool). cond b 1 0) (touched-read i h))
+      sumTo-ext (λ i. cond (bitAt set i) 1 0) (λ i. cond (touched base patch i) 1 0) count (λ i h. ap (λ (b : Bool). cond b 1 0) (touched-read i h))
       ∙ ap (countTo (touched base patch)) (read .count)
 
   -- where a task stood in the base
-  old-read : (i : ℕ) → i < t .count → getD old i 0 ≡ oldPlace base patch i
+  old-read : (i : ℕ) → i < count → getD old i 0 ≡ oldPlace base patch i
   old-read i h =
       ap (λ (l : List ℕ). getD l i 0) placed
-      ∙ column-at (t .count) (λ j. placeOf (tasks base) (getD (t .ids) j 0)) i few h
+      ∙ column-at count (λ j. placeOf (tasks base) (getD (idsIn fields) j 0)) i few h
       ∙ ap (placeOf (tasks base)) (id-read i h)
 
   -- a cell of the new map
-  cell-read : (rows : List ℕ) (i j : ℕ) → i < t .count → j < t .count → carriedBy t barred set old rows i j ≡ carried base patch rows i j
-  unfolding carriedBy carried
+  cell-read : (rows : List ℕ) (i j : ℕ) → i < count → j < count → carriedBy fields barred set old rows i j ≡ carried base patch rows i j
+  unfolding cellNew carried
   cell-read rows i j h l =
       rw (
         touched-read i h,
         touched-read j l,
         old-read i h,
         old-read j l,
-        decided-read (outcome base patch) t barred shape read pairs-read i j (omega (arith, read .count)) (omega (arith, read .count)),
+        decided-read (outcome base patch) count fields barred shape read pairs-read i j (omega (arith, read .count)) (omega (arith, read .count)),
       )
 
   -- and so the map
-  pub carried-read : (rows : List ℕ) → mapFrom (t .count) (carriedBy t barred set old rows) ≡ patchedMap base patch rows
+  pub carried-read : (rows : List ℕ) → mapFrom count (carriedBy fields barred set old rows) ≡ patchedMap base patch rows
   carried-read rows =
-      map-ext (t .count) (carriedBy t barred set old rows) (carried base patch rows) (cell-read rows)
+      map-ext count (carriedBy fields barred set old rows) (carried base patch rows) (cell-read rows)
       ∙ ap (λ (n : ℕ). mapFrom n (carried base patch rows)) (read .count)

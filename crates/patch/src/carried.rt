@@ -10,19 +10,19 @@ ghost use Rattle.rules.specs.Patches.{outcome};
 ghost use Rattle.rules.specs.Refusals.{accepted, tableVerdict};
 ghost use Rattle.image.specs.Held.{HoldsRecords};
 ghost use Rattle.preempt.specs.Bits.{column};
-ghost use Rattle.preempt.specs.Tasks.{upperAt};
-ghost use Rattle.patch.specs.Carried.{cellCarried, cellOf, cellNew, carriedBy, MapCarried};
+ghost use Rattle.preempt.specs.Tasks.{taskIn};
+ghost use Rattle.patch.specs.Carried.{cellCarried, cellNew, carriedBy, MapCarried};
 use crate::touched::count_places;
 use crate::touched::touched_tasks;
 use preempt::barred::read_barred;
 use preempt::bits::is_set;
 use preempt::bits::power;
 use preempt::decide::may_preempt;
-use preempt::map::lower_at;
 use preempt::map::row;
-use preempt::map::upper_at;
-use preempt::tasks::Tasks;
+use preempt::tasks::ids_of;
 use preempt::tasks::read_tasks;
+use preempt::tasks::task_in;
+use preempt::tasks::transactions_of;
 use rules::Task;
 use table::count::count_kind;
 use table::place::numbers_from;
@@ -34,13 +34,12 @@ pub struct Carried {
     pub touched: u32,
 }
 
-// What the decisions of one row share: the period of its task's transaction, the bits of the tasks that a pair bars, the
-// task itself, and whether each cell of the row is decided, because that task is touched.
+// What the decisions of one row share: the period of its task's transaction, the bits of the tasks that a pair bars, and the
+// task itself.
 pub struct Decision {
     pub period: u32,
     pub bars: u64,
     pub low: Task,
-    pub whole: bool,
 }
 
 // Where the base has the tasks with these ids; the number of its tasks where it has none.
@@ -108,12 +107,9 @@ fn is_carried_set(
     is_cell_set(before, place)
 }
 
-// One row of the new map from the row before. Whether its task is touched is asked once for all its cells.
+// One row of the new map from the row before, for a task that is not touched.
 fn carried_row(
-    transactions: &[u32; 64],
-    priorities: &[u32; 64],
-    offsets: &[u32; 64],
-    jitters: &[u32; 64],
+    fields: &[u32; 576],
     count: usize,
     decision: Decision,
     touched: u64,
@@ -121,24 +117,12 @@ fn carried_row(
     before: u64,
 ) -> u64
     requires { ⌜ (count ≤ 64) × (64 ≤ length (now old)) ⌝ }
-    ensures { λ r. ⌜ r ≡ rowFrom count (λ j. cellOf decision (upperAt (now (transactions .entry)) (now (priorities .entry)) (now (offsets .entry)) (now (jitters .entry)) j) touched (now (old .entry)) before j) ⌝ }
+    ensures { λ r. ⌜ r ≡ rowFrom count (λ j. cellCarried decision (taskIn (now (fields .entry)) j) touched (now (old .entry)) before j) ⌝ }
 {
-    if decision.whole {
-        return row(
-            transactions,
-            priorities,
-            offsets,
-            jitters,
-            count,
-            decision.period,
-            decision.bars,
-            decision.low,
-        );
-    }
     let mut bits: u64 = 0;
     let mut j: usize = 0;
     while j < count {
-        let high = upper_at(transactions, priorities, offsets, jitters, j);
+        let high = task_in(fields, j);
         if is_carried_set(decision, high, touched, old, before, j) {
             bits += power(j);
         }
@@ -147,78 +131,47 @@ fn carried_row(
     bits
 }
 
-// Row i of the new map, for the low task, which is at place i, with this period and these bars.
+// Row i of the new map. Whether its task is touched, so that each of its cells is decided, is asked once for all of them.
 fn new_row(
-    transactions: &[u32; 64],
-    priorities: &[u32; 64],
-    offsets: &[u32; 64],
-    jitters: &[u32; 64],
+    fields: &[u32; 576],
     count: usize,
-    period: u32,
     bars: u64,
-    low: Task,
     touched: u64,
     old: &[u32],
     rows: &[u64],
     i: usize,
 ) -> u64
     requires { ⌜ (i < 64) × ((count ≤ 64) × (64 ≤ length (now old))) ⌝ }
-    ensures { λ r. ⌜ r ≡ rowFrom count (cellNew period bars low (upperAt (now (transactions .entry)) (now (priorities .entry)) (now (offsets .entry)) (now (jitters .entry))) touched (now (old .entry)) (now (rows .entry)) i) ⌝ }
+    ensures { λ r. ⌜ r ≡ rowFrom count (cellNew (now (fields .entry)) bars touched (now (old .entry)) (now (rows .entry)) i) ⌝ }
 {
+    if is_set(touched, i) {
+        return row(fields, count, bars, i);
+    }
     let decision = Decision {
-        period,
+        period: fields[512 + i],
         bars,
-        low,
-        whole: is_set(touched, i),
+        low: task_in(fields, i),
     };
-    carried_row(
-        transactions,
-        priorities,
-        offsets,
-        jitters,
-        count,
-        decision,
-        touched,
-        old,
-        row_before(rows, old[i]),
-    )
+    let before = row_before(rows, old[i]);
+    carried_row(fields, count, decision, touched, old, before)
 }
 
-// The rows of the new map. The arrays are taken out of the tasks once, and each row is lent them.
+// The rows of the new map.
 fn carried_rows(
-    tasks: Tasks,
-    barred: [u64; 64],
+    fields: &[u32; 576],
+    barred: &[u64; 64],
+    count: usize,
     touched: u64,
     old: &[u32],
     rows: &[u64],
 ) -> [u64; 64]
-    requires { ⌜ (tasks .count ≤ 64) × (64 ≤ length (now old)) ⌝ }
-    ensures { λ r. ⌜ r ≡ mapFrom (tasks .count) (carriedBy tasks barred touched (now (old .entry)) (now (rows .entry))) ⌝ }
+    requires { ⌜ (count ≤ 64) × (64 ≤ length (now old)) ⌝ }
+    ensures { λ r. ⌜ r ≡ mapFrom count (carriedBy (now (fields .entry)) (now (barred .entry)) touched (now (old .entry)) (now (rows .entry))) ⌝ }
 {
-    let transactions = tasks.transactions;
-    let priorities = tasks.priorities;
-    let offsets = tasks.offsets;
-    let jitters = tasks.jitters;
-    let responses = tasks.responses;
-    let thresholds = tasks.thresholds;
     let mut map = [0u64; 64];
     let mut i: usize = 0;
-    while i < tasks.count {
-        let low = lower_at(&transactions, &offsets, &responses, &thresholds, i);
-        map[i] = new_row(
-            &transactions,
-            &priorities,
-            &offsets,
-            &jitters,
-            tasks.count,
-            tasks.periods[i],
-            barred[i],
-            low,
-            touched,
-            old,
-            rows,
-            i,
-        );
+    while i < count {
+        map[i] = new_row(fields, count, barred[i], touched, old, rows, i);
         i += 1;
     }
     map
@@ -232,12 +185,11 @@ pub fn carry_map(base: &[u8], patch: &[u8], image: &[u8], rows: &[u64]) -> Carri
     ensures { λ r. ⌜ MapCarried (records (now (base .entry))) (records (now (patch .entry))) (now (rows .entry)) r ⌝ }
 {
     let tasks = read_tasks(image);
-    let ids = tasks.ids;
-    let barred = read_barred(image, &ids, tasks.count);
-    let transactions = tasks.transactions;
-    let touched = touched_tasks(patch, &ids, &transactions, tasks.count);
-    let old = old_places(base, &ids, tasks.count);
-    let map = carried_rows(tasks, barred, touched, &old, rows);
+    let ids = ids_of(&tasks.fields);
+    let barred = read_barred(image, ids, tasks.count);
+    let touched = touched_tasks(patch, ids, transactions_of(&tasks.fields), tasks.count);
+    let old = old_places(base, ids, tasks.count);
+    let map = carried_rows(&tasks.fields, &barred, tasks.count, touched, &old, rows);
     Carried {
         map,
         touched: count_places(touched, tasks.count),

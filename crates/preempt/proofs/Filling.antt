@@ -1,91 +1,117 @@
--- The tasks of a table, read place by place: what is read of the first ones is one value, and the next task fills one place of
--- each of its arrays.
-use Prim.Native.Nat.{ℕ, _+_, _<_}
-use mathlib.Core.List.{List}
-use mathlib.Core.Path.{_≡_, ap}
-use lib.ListN.{set}
+-- The fields of the tasks, read place by place: each column is filled up to the next place, and the next task fills one place
+-- of each.
+use Prim.Native.Nat.{ℕ, zero, suc, _+_, _*_, _-_, _≤_, _<_}
+use mathlib.Core.List.{List, [], _∷_}
+use mathlib.Core.Path.{_≡_, refl, ap, sym, _∙_}
+use native.Mathlib.Omega.{arith}
+use lib.ListN.{length, getD, set, replicate, take, drop, length-set, length-replicate}
+use lib.Seq.{drop-set-add, drop-set-lt, take-set-lt, take-set-le}
 use Rattle.rules.specs.declared.Task.{Task}
-use Rattle.rules.specs.Records.{taskCount, taskAt, periodAt}
-use Rattle.preempt.specs.declared.tasks.Tasks.{Tasks}
+use Rattle.rules.specs.Records.{taskAt, periodAt}
 use Rattle.preempt.specs.Bits.{column}
-use Rattle.preempt.specs.Tasks.{noTasks, TasksRead}
-use Rattle.preempt.proofs.Columns.{column-none, column-more}
+use Rattle.preempt.specs.Tasks.{FieldsTo}
+use Rattle.preempt.proofs.Columns.{column-none, column-filled}
 
--- what is read of the first i of n tasks, and the periods of all
-abbrev pub tasksTo : List (List ℕ) → ℕ → ℕ → Tasks
-tasksTo rs n i =
-    record {
-      count = n;
-      ids = column i (λ k. taskAt rs k .id);
-      transactions = column i (λ k. taskAt rs k .transaction);
-      priorities = column i (λ k. taskAt rs k .priority);
-      offsets = column i (λ k. taskAt rs k .offset);
-      jitters = column i (λ k. taskAt rs k .jitter);
-      responses = column i (λ k. taskAt rs k .response);
-      sizes = column i (λ k. taskAt rs k .size);
-      thresholds = column i (λ k. taskAt rs k .threshold);
-      periods = column n (periodAt rs);
-    }
+-- column m of the fields
+abbrev columnIn : ℕ → List ℕ → List ℕ
+columnIn m fields = take 64 (drop (64 * m) fields)
 
--- of no task
-pub tasks-none : (rs : List (List ℕ)) (n : ℕ) → noTasks n (column n (periodAt rs)) ≡ tasksTo rs n 0
-tasks-none rs n =
-    rw (
-      ← column-none (λ k. taskAt rs k .id),
-      ← column-none (λ k. taskAt rs k .transaction),
-      ← column-none (λ k. taskAt rs k .priority),
-      ← column-none (λ k. taskAt rs k .offset),
-      ← column-none (λ k. taskAt rs k .jitter),
-      ← column-none (λ k. taskAt rs k .response),
-      ← column-none (λ k. taskAt rs k .size),
-      ← column-none (λ k. taskAt rs k .threshold),
-    )
+-- a number written at a place of a column
+column-same : (m : ℕ) (l : List ℕ) (i x : ℕ) → i < 64 → columnIn m (set l (64 * m + i) x) ≡ set (columnIn m l) i x
+column-same m l i x h = ap (take 64) (drop-set-add (64 * m) l i x) ∙ take-set-lt 64 (drop (64 * m) l) i x h
+
+-- changes no column behind it
+column-behind : (m : ℕ) (l : List ℕ) (at x : ℕ) → at < 64 * m → columnIn m (set l at x) ≡ columnIn m l
+column-behind m l at x h = ap (take 64) (drop-set-lt (64 * m) l at x h)
+
+-- and none before it
+column-before : (m : ℕ) (l : List ℕ) (at x : ℕ) → 64 * m + 64 ≤ at → columnIn m (set l at x) ≡ columnIn m l
+column-before m l at x h =
+    let further : at ≡ 64 * m + (at - 64 * m) = omega arith in
+    ap (λ (n : ℕ). columnIn m (set l n x)) further
+    ∙ ap (take 64) (drop-set-add (64 * m) l (at - 64 * m) x)
+    ∙ take-set-le 64 (drop (64 * m) l) (at - 64 * m) x (omega arith)
+
+-- numbers written at one place of the columns from k on
+abbrev put : ℕ → List ℕ → ℕ → List ℕ → List ℕ
+put k l i [] = l
+put k l i (x ∷ xs) = put (k + 1) (set l (64 * k + i) x) i xs
+
+put-length : (k : ℕ) (l : List ℕ) (i : ℕ) (xs : List ℕ) → length (put k l i xs) ≡ length l
+put-length k l i [] = refl
+put-length k l i (x ∷ xs) = put-length (k + 1) (set l (64 * k + i) x) i xs ∙ length-set l (64 * k + i) x
+
+put-before : (k : ℕ) (l : List ℕ) (i : ℕ) (xs : List ℕ) (m : ℕ) → m < k → columnIn m (put k l i xs) ≡ columnIn m l
+put-before k l i [] m h = refl
+put-before k l i (x ∷ xs) m h =
+    put-before (k + 1) (set l (64 * k + i) x) i xs m (omega arith) ∙ column-before m l (64 * k + i) x (omega arith)
+
+put-here : (k : ℕ) (l : List ℕ) (i : ℕ) (xs : List ℕ) (m : ℕ) → i < 64 → m < length xs
+    → columnIn (k + m) (put k l i xs) ≡ set (columnIn (k + m) l) i (getD xs m 0)
+put-here k l i [] m inside h = absurd (omega arith)
+put-here k l i (x ∷ xs) zero inside h =
+    let same : k + 0 ≡ k = omega arith in
+    rw same (put-before (k + 1) (set l (64 * k + i) x) i xs k (omega arith) ∙ column-same k l i x inside)
+put-here k l i (x ∷ xs) (suc m) inside h =
+    ap (λ (n : ℕ). columnIn n (put (k + 1) (set l (64 * k + i) x) i xs)) next
+    ∙ put-here (k + 1) (set l (64 * k + i) x) i xs m inside (omega arith)
+    ∙ ap (λ (c : List ℕ). set c i (getD xs m 0)) (column-behind (k + 1 + m) l (64 * k + i) x (omega arith) ∙ ap (λ (n : ℕ). columnIn n l) (sym next))
+  where
+    next : k + suc m ≡ k + 1 + m
+    next = omega arith
+
+-- what is read of one task, from the second column on
+abbrev others : Task → ℕ → List ℕ
+others task period =
+    task .transaction ∷ (task .priority ∷ (task .offset ∷ (task .jitter ∷ (task .response ∷ (task .size ∷ (task .threshold ∷ (period ∷ [])))))))
 
 -- a task put at a place
-abbrev pub withTask : Tasks → ℕ → Task → Tasks
-withTask t i task =
+abbrev pub withTask : List ℕ → ℕ → Task → ℕ → List ℕ
+withTask fields i task period = put 1 (set fields i (task .id)) i (others task period)
+
+-- a column of no task
+none-at : (l : List ℕ) (f : ℕ → ℕ) → l ≡ replicate 64 0 → l ≡ column 0 f
+none-at l f e = e ∙ column-none f
+
+-- nothing is read of no task
+pub fields-none : (rs : List (List ℕ)) → FieldsTo rs 0 (replicate 576 0)
+fields-none rs =
     record {
-      count = t .count;
-      ids = set (t .ids) i (task .id);
-      transactions = set (t .transactions) i (task .transaction);
-      priorities = set (t .priorities) i (task .priority);
-      offsets = set (t .offsets) i (task .offset);
-      jitters = set (t .jitters) i (task .jitter);
-      responses = set (t .responses) i (task .response);
-      sizes = set (t .sizes) i (task .size);
-      thresholds = set (t .thresholds) i (task .threshold);
-      periods = t .periods;
+      whole = length-replicate {A = ℕ} 576 0;
+      ids = none-at _ _ refl;
+      transactions = none-at _ _ refl;
+      priorities = none-at _ _ refl;
+      offsets = none-at _ _ refl;
+      jitters = none-at _ _ refl;
+      responses = none-at _ _ refl;
+      sizes = none-at _ _ refl;
+      thresholds = none-at _ _ refl;
+      periods = none-at _ _ refl;
     }
 
--- the next one
-pub tasks-more : (rs : List (List ℕ)) (n i : ℕ) (t : Tasks) (task : Task) → i < 64 → t ≡ tasksTo rs n i → task ≡ taskAt rs i
-    → withTask t i task ≡ tasksTo rs n (i + 1)
-tasks-more rs n i t task inside so-far here =
-    rw (
-      so-far,
-      here,
-      column-more i (λ k. taskAt rs k .id) inside,
-      column-more i (λ k. taskAt rs k .transaction) inside,
-      column-more i (λ k. taskAt rs k .priority) inside,
-      column-more i (λ k. taskAt rs k .offset) inside,
-      column-more i (λ k. taskAt rs k .jitter) inside,
-      column-more i (λ k. taskAt rs k .response) inside,
-      column-more i (λ k. taskAt rs k .size) inside,
-      column-more i (λ k. taskAt rs k .threshold) inside,
-    )
-
--- and all of them
-pub tasks-all : (rs : List (List ℕ)) (t : Tasks) → t ≡ tasksTo rs (taskCount rs) (taskCount rs) → TasksRead rs t
-tasks-all rs t all =
+-- and one task more fills one place more
+pub fields-more : (rs : List (List ℕ)) (i : ℕ) (fields : List ℕ) (task : Task) (period : ℕ) → i < 64 → FieldsTo rs i fields → task ≡ taskAt rs i → period ≡ periodAt rs i
+    → FieldsTo rs (i + 1) (withTask fields i task period)
+fields-more rs i fields task period inside so-far here own =
     record {
-      count = ap (λ (u : Tasks). u .count) all;
-      ids = ap (λ (u : Tasks). u .ids) all;
-      transactions = ap (λ (u : Tasks). u .transactions) all;
-      priorities = ap (λ (u : Tasks). u .priorities) all;
-      offsets = ap (λ (u : Tasks). u .offsets) all;
-      jitters = ap (λ (u : Tasks). u .jitters) all;
-      responses = ap (λ (u : Tasks). u .responses) all;
-      sizes = ap (λ (u : Tasks). u .sizes) all;
-      thresholds = ap (λ (u : Tasks). u .thresholds) all;
-      periods = ap (λ (u : Tasks). u .periods) all;
+      whole = put-length 1 (set fields i (task .id)) i (others task period) ∙ length-set fields i (task .id) ∙ so-far .whole;
+      ids =
+          put-before 1 (set fields i (task .id)) i (others task period) 0 (omega arith)
+          ∙ take-set-lt 64 fields i (task .id) inside
+          ∙ column-filled i (λ k. taskAt rs k .id) (take 64 fields) (task .id) inside (so-far .ids) (ap (λ (t : Task). t .id) here);
+      transactions = more 0 (λ k. taskAt rs k .transaction) (omega arith) (so-far .transactions) (ap (λ (t : Task). t .transaction) here);
+      priorities = more 1 (λ k. taskAt rs k .priority) (omega arith) (so-far .priorities) (ap (λ (t : Task). t .priority) here);
+      offsets = more 2 (λ k. taskAt rs k .offset) (omega arith) (so-far .offsets) (ap (λ (t : Task). t .offset) here);
+      jitters = more 3 (λ k. taskAt rs k .jitter) (omega arith) (so-far .jitters) (ap (λ (t : Task). t .jitter) here);
+      responses = more 4 (λ k. taskAt rs k .response) (omega arith) (so-far .responses) (ap (λ (t : Task). t .response) here);
+      sizes = more 5 (λ k. taskAt rs k .size) (omega arith) (so-far .sizes) (ap (λ (t : Task). t .size) here);
+      thresholds = more 6 (λ k. taskAt rs k .threshold) (omega arith) (so-far .thresholds) (ap (λ (t : Task). t .threshold) here);
+      periods = more 7 (periodAt rs) (omega arith) (so-far .periods) own;
     }
+  where
+    more : (m : ℕ) (f : ℕ → ℕ) → m < 8 → columnIn (1 + m) fields ≡ column i f → getD (others task period) m 0 ≡ f i
+        → columnIn (1 + m) (withTask fields i task period) ≡ column (i + 1) f
+    more m f below filled value =
+        put-here 1 (set fields i (task .id)) i (others task period) m inside below
+        ∙ ap (λ (c : List ℕ). set c i (getD (others task period) m 0)) (column-behind (1 + m) fields i (task .id) (omega arith))
+        ∙ column-filled i f (columnIn (1 + m) fields) (getD (others task period) m 0) inside filled value

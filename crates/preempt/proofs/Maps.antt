@@ -1,4 +1,4 @@
--- Laws of maps: a map is a column of rows, one more of its cells may be set, and a decision asks some fields of each task.
+-- Laws of maps: a map is a column of rows, and one more of its cells may be set.
 use Prim.Native.Nat.{ℕ, _^_, _≤_, _<_}
 use mathlib.Core.List.{List}
 use mathlib.Core.Bool.{Bool, true, false, cond, _&&_, _||_, or-false}
@@ -9,14 +9,11 @@ use lib.Bits.{bitOr, or-lt}
 use lib.Dec.{ltb, eqb}
 use lib.ListN.{getD, set, replicate}
 use lib.Pow.{pow-lt}
-use Rattle.rules.specs.declared.Task.{Task}
-use Rattle.rules.specs.Preempt.{reason, mayPreempt, rowFrom, mapFrom, bitAt}
+use Rattle.rules.specs.Preempt.{rowFrom, mapFrom, bitAt}
 use Rattle.rules.proofs.Numbers.{either, sumTo-ext}
 use Rattle.rules.proofs.Bits.{bit-of-power, bit-or, bits-at, bits-small, bits-none, bits-made}
 use Rattle.rules.proofs.Maps.{rowTest, map-row, row-ext, map-ext}
-use Rattle.preempt.specs.declared.tasks.Tasks.{Tasks}
 use Rattle.preempt.specs.Bits.{column, marked, withPair}
-use Rattle.preempt.specs.Tasks.{lowerAt, upperAt, decidedBy}
 use Rattle.preempt.proofs.Columns.{column-zero, column-set}
 
 -- a map is a column of rows
@@ -81,16 +78,3 @@ one-or-both n test false a b most h l =
 pub map-with-pair : (n : ℕ) (test : ℕ → ℕ → Bool) (sort a b : ℕ) → n ≤ 64 → a < n → b < n
     → withPair (mapFrom n test) sort a b ≡ mapFrom n (λ i j. test i j || ((eqb i a && eqb j b) || (eqb sort 1 && (eqb j a && eqb i b))))
 map-with-pair n test sort a b most h l = one-or-both n test (eqb sort 1) a b most h l
-
--- the task at a place with what a decision asks of either side, as it was read
-abbrev pub lowerIn : Tasks → ℕ → Task
-lowerIn t = lowerAt (t .transactions) (t .offsets) (t .responses) (t .thresholds)
-
-abbrev pub upperIn : Tasks → ℕ → Task
-upperIn t = upperAt (t .transactions) (t .priorities) (t .offsets) (t .jitters)
-
--- a decision asks nothing else, so these fields are enough for it
-pub decided-sides : (t : Tasks) (rows : List ℕ) (i j : ℕ)
-    → mayPreempt (getD (t .periods) i 0) (bitAt (getD rows i 0) j) (lowerIn t i) (upperIn t j) ≡ decidedBy t rows i j
-unfolding mayPreempt reason decidedBy
-decided-sides t rows i j = refl

@@ -1,42 +1,61 @@
 -- What the tasks that were read say of the tasks of the table.
-use Prim.Native.Nat.{ℕ, _<_}
+use Prim.Native.Nat.{ℕ, _+_, _<_}
 use mathlib.Core.List.{List, []}
 use mathlib.Core.Path.{_≡_, ap, sym, _∙_}
 use native.Mathlib.Omega.{arith}
-use lib.ListN.{length, getD}
+use lib.ListN.{length, getD, take, drop, take-append-drop, drop-of-length-le}
+use lib.Seq.{getD-take, getD-drop, drop-drop}
 use Rattle.rules.specs.Records.{numberOf, tasks, taskCount, taskAt, periodAt}
 use Rattle.rules.specs.Preempt.{barred, decided, cell, mapFrom, mapOf}
 use Rattle.rules.proofs.Table.Shape.{Shape}
 use Rattle.rules.proofs.Maps.{cell-of-map, map-ext}
 use Rattle.table.specs.Numbers.{Directory}
-use Rattle.preempt.specs.declared.tasks.Tasks.{Tasks}
 use Rattle.preempt.specs.Bits.{column}
-use Rattle.preempt.specs.Tasks.{TasksRead, barredMap, taskIn, decidedBy}
+use Rattle.preempt.specs.Tasks.{TasksRead, idsIn, barredMap, taskIn, decidedOn, decidedBy}
 use Rattle.preempt.proofs.Columns.{column-length, column-at}
-use Rattle.preempt.proofs.Filling.{tasksTo}
 
 -- a field of the task at a place that holds one
 pub field-at : (rs : List (List ℕ)) (l : List ℕ) (f : ℕ → ℕ) → Shape rs → l ≡ column (taskCount rs) f → (i : ℕ) → i < taskCount rs → getD l i 0 ≡ f i
 field-at rs l f shape e i h = ap (λ (c : List ℕ). getD c i 0) e ∙ column-at (taskCount rs) f i (shape .few-tasks) h
 
--- all that can be read of a table's tasks
-pub tasks-read : (rs : List (List ℕ)) (t : Tasks) → TasksRead rs t → t ≡ tasksTo rs (taskCount rs) (taskCount rs)
-tasks-read rs t read =
-    let fields : Tasks = record { count = t .count; ids = t .ids; transactions = t .transactions; priorities = t .priorities; offsets = t .offsets; jitters = t .jitters; responses = t .responses; sizes = t .sizes; thresholds = t .thresholds; periods = t .periods } in
-    let same : fields ≡ tasksTo rs (taskCount rs) (taskCount rs) = rw (read .count, read .ids, read .transactions, read .priorities, read .offsets, read .jitters, read .responses, read .sizes, read .thresholds, read .periods) in
-    same
+-- the same where the column is a part of the fields
+part-at : (rs : List (List ℕ)) (fields : List ℕ) (from : ℕ) (f : ℕ → ℕ) → Shape rs → take 64 (drop from fields) ≡ column (taskCount rs) f → (i : ℕ)
+    → i < taskCount rs → getD fields (from + i) 0 ≡ f i
+part-at rs fields from f shape e i h =
+    sym (getD-drop from fields i 0)
+    ∙ sym (getD-take 64 (drop from fields) i 0 (omega (arith, shape .few-tasks)))
+    ∙ field-at rs (take 64 (drop from fields)) f shape e i h
 
--- so two readings of one table are equal
-pub tasks-determined : (rs : List (List ℕ)) (t u : Tasks) → TasksRead rs t → TasksRead rs u → t ≡ u
-tasks-determined rs t u p q = tasks-read rs t p ∙ sym (tasks-read rs u q)
+-- two lists that agree in 64 numbers and behind them agree from the first of these on
+same-from : (n : ℕ) (l k : List ℕ) → take 64 (drop n l) ≡ take 64 (drop n k) → drop (n + 64) l ≡ drop (n + 64) k → drop n l ≡ drop n k
+same-from n l k here behind =
+    let rest : drop 64 (drop n l) ≡ drop 64 (drop n k) = drop-drop 64 n l ∙ behind ∙ sym (drop-drop 64 n k) in
+    sym (take-append-drop 64 (drop n l)) ∙ rw (here, rest) (take-append-drop 64 (drop n k))
+
+-- so a table can be read in one way only
+pub tasks-determined : (rs : List (List ℕ)) (n m : ℕ) (l k : List ℕ) → TasksRead rs n l → TasksRead rs m k → (n ≡ m) × (l ≡ k)
+tasks-determined rs n m l k p q =
+    let a = p .columns in
+    let b = q .columns in
+    let none : drop 576 l ≡ drop 576 k =
+            drop-of-length-le l {i = 576} (omega (arith, a .whole)) ∙ sym (drop-of-length-le k {i = 576} (omega (arith, b .whole))) in
+    let from-512 = same-from 512 l k (a .periods ∙ sym (b .periods)) none in
+    let from-448 = same-from 448 l k (a .thresholds ∙ sym (b .thresholds)) from-512 in
+    let from-384 = same-from 384 l k (a .sizes ∙ sym (b .sizes)) from-448 in
+    let from-320 = same-from 320 l k (a .responses ∙ sym (b .responses)) from-384 in
+    let from-256 = same-from 256 l k (a .jitters ∙ sym (b .jitters)) from-320 in
+    let from-192 = same-from 192 l k (a .offsets ∙ sym (b .offsets)) from-256 in
+    let from-128 = same-from 128 l k (a .priorities ∙ sym (b .priorities)) from-192 in
+    let from-64 = same-from 64 l k (a .transactions ∙ sym (b .transactions)) from-128 in
+    (p .count ∙ sym (q .count), same-from 0 l k (a .ids ∙ sym (b .ids)) from-64)
 
 -- the ids are a directory of the tasks
-pub ids-directory : (rs : List (List ℕ)) (t : Tasks) → Shape rs → TasksRead rs t → Directory (tasks rs) (t .ids) (t .count)
-ids-directory rs t shape read =
-    let id : (i : ℕ) → i < taskCount rs → getD (t .ids) i 0 ≡ numberOf (getD (tasks rs) i []) = field-at rs (t .ids) (λ i. taskAt rs i .id) shape (read .ids) in
+pub ids-directory : (rs : List (List ℕ)) (count : ℕ) (fields : List ℕ) → Shape rs → TasksRead rs count fields → Directory (tasks rs) (idsIn fields) count
+ids-directory rs count fields shape read =
+    let id : (i : ℕ) → i < taskCount rs → getD (idsIn fields) i 0 ≡ numberOf (getD (tasks rs) i []) = field-at rs (idsIn fields) (λ i. taskAt rs i .id) shape (read .columns .ids) in
     record {
       counted = read .count;
-      room = omega (arith, read .count, shape .few-tasks, ap length (read .ids), column-length (taskCount rs) (λ i. taskAt rs i .id));
+      room = omega (arith, read .count, shape .few-tasks, ap length (read .columns .ids), column-length (taskCount rs) (λ i. taskAt rs i .id));
       right = λ k h. id k (omega (arith, read .count));
       rising =
           λ i j b l.
@@ -45,19 +64,20 @@ ids-directory rs t shape read =
     }
 
 -- what was read of a table, and of its pairs
-module _ (rs : List (List ℕ)) (t : Tasks) (rows : List ℕ) (shape : Shape rs) (read : TasksRead rs t) (pairs-read : rows ≡ barredMap rs) where
+module _ (rs : List (List ℕ)) (count : ℕ) (fields : List ℕ) (rows : List ℕ) (shape : Shape rs) (read : TasksRead rs count fields) (pairs-read : rows ≡ barredMap rs) where
   -- the task at a place is the table's
-  pub task-read : (i : ℕ) → i < taskCount rs → taskIn t i ≡ taskAt rs i
+  pub task-read : (i : ℕ) → i < taskCount rs → taskIn fields i ≡ taskAt rs i
   task-read i h =
+      let columns = read .columns in
       rw (
-        field-at rs (t .ids) (λ i. taskAt rs i .id) shape (read .ids) i h,
-        field-at rs (t .transactions) (λ i. taskAt rs i .transaction) shape (read .transactions) i h,
-        field-at rs (t .priorities) (λ i. taskAt rs i .priority) shape (read .priorities) i h,
-        field-at rs (t .offsets) (λ i. taskAt rs i .offset) shape (read .offsets) i h,
-        field-at rs (t .jitters) (λ i. taskAt rs i .jitter) shape (read .jitters) i h,
-        field-at rs (t .responses) (λ i. taskAt rs i .response) shape (read .responses) i h,
-        field-at rs (t .sizes) (λ i. taskAt rs i .size) shape (read .sizes) i h,
-        field-at rs (t .thresholds) (λ i. taskAt rs i .threshold) shape (read .thresholds) i h,
+        sym (getD-take 64 fields i 0 (omega (arith, shape .few-tasks))) ∙ field-at rs (idsIn fields) (λ i. taskAt rs i .id) shape (columns .ids) i h,
+        part-at rs fields 64 (λ i. taskAt rs i .transaction) shape (columns .transactions) i h,
+        part-at rs fields 128 (λ i. taskAt rs i .priority) shape (columns .priorities) i h,
+        part-at rs fields 192 (λ i. taskAt rs i .offset) shape (columns .offsets) i h,
+        part-at rs fields 256 (λ i. taskAt rs i .jitter) shape (columns .jitters) i h,
+        part-at rs fields 320 (λ i. taskAt rs i .response) shape (columns .responses) i h,
+        part-at rs fields 384 (λ i. taskAt rs i .size) shape (columns .sizes) i h,
+        part-at rs fields 448 (λ i. taskAt rs i .threshold) shape (columns .thresholds) i h,
       )
 
   -- a bit of a row is set where the pair of places is barred
@@ -68,18 +88,18 @@ module _ (rs : List (List ℕ)) (t : Tasks) (rows : List ℕ) (shape : Shape rs)
       ∙ cell-of-map (taskCount rs) (λ i j. barred rs (taskAt rs i .id) (taskAt rs j .id)) i j (shape .few-tasks) h l
 
   -- the decision from what was read is the table's
-  pub decided-read : (i j : ℕ) → i < taskCount rs → j < taskCount rs → decidedBy t rows i j ≡ decided rs i j
-  unfolding decidedBy decided
+  pub decided-read : (i j : ℕ) → i < taskCount rs → j < taskCount rs → decidedBy fields rows i j ≡ decided rs i j
+  unfolding decidedOn decided
   decided-read i j h l =
       rw (
-        field-at rs (t .periods) (periodAt rs) shape (read .periods) i h,
+        part-at rs fields 512 (periodAt rs) shape (read .columns .periods) i h,
         barred-read i j h l,
         task-read i h,
         task-read j l,
       )
 
   -- and so is the map
-  pub map-read : mapFrom (t .count) (decidedBy t rows) ≡ mapOf rs
+  pub map-read : mapFrom count (decidedBy fields rows) ≡ mapOf rs
   map-read =
-      ap (λ (n : ℕ). mapFrom n (decidedBy t rows)) (read .count)
-      ∙ map-ext (taskCount rs) (decidedBy t rows) (decided rs) decided-read
+      ap (λ (n : ℕ). mapFrom n (decidedBy fields rows)) (read .count)
+      ∙ map-ext (taskCount rs) (decidedBy fields rows) (decided rs) decided-read

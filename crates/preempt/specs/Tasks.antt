@@ -1,94 +1,82 @@
 -- What is read of a table's tasks and pairs, and the decision from it.
-use Prim.Native.Nat.{ℕ}
+use Prim.Native.Nat.{ℕ, _+_}
 use mathlib.Core.List.{List}
 use mathlib.Core.Bool.{Bool}
 use mathlib.Core.Path.{_≡_}
-use lib.ListN.{getD, replicate}
+use lib.ListN.{length, getD, take, drop}
 use Rattle.rules.specs.declared.Task.{Task}
 use Rattle.rules.specs.Records.{taskCount, taskAt, periodAt}
-use Rattle.rules.specs.Preempt.{mayPreempt, barred, cell, mapFrom}
+use Rattle.rules.specs.Preempt.{mayPreempt, barred, bitAt, mapFrom}
 use Rattle.preempt.specs.Bits.{column}
-use Rattle.preempt.specs.declared.tasks.Tasks.{Tasks}
 
--- each field of the tasks by their places, and the period of each task's transaction
-pub record TasksRead (rs : List (List ℕ)) (t : Tasks) : Type 0 where
-  pub count : t .count ≡ taskCount rs
-  pub ids : t .ids ≡ column (taskCount rs) (λ i. taskAt rs i .id)
-  pub transactions : t .transactions ≡ column (taskCount rs) (λ i. taskAt rs i .transaction)
-  pub priorities : t .priorities ≡ column (taskCount rs) (λ i. taskAt rs i .priority)
-  pub offsets : t .offsets ≡ column (taskCount rs) (λ i. taskAt rs i .offset)
-  pub jitters : t .jitters ≡ column (taskCount rs) (λ i. taskAt rs i .jitter)
-  pub responses : t .responses ≡ column (taskCount rs) (λ i. taskAt rs i .response)
-  pub sizes : t .sizes ≡ column (taskCount rs) (λ i. taskAt rs i .size)
-  pub thresholds : t .thresholds ≡ column (taskCount rs) (λ i. taskAt rs i .threshold)
-  pub periods : t .periods ≡ column (taskCount rs) (periodAt rs)
+-- the columns, of 64 numbers each, in which the fields of the tasks stand by their places
+abbrev pub idsIn : List ℕ → List ℕ
+idsIn fields = take 64 fields
 
--- no task read yet of so many, whose transactions have these periods
-abbrev pub noTasks : ℕ → List ℕ → Tasks
-noTasks count periods =
-    record {
-      count = count;
-      ids = replicate 64 0;
-      transactions = replicate 64 0;
-      priorities = replicate 64 0;
-      offsets = replicate 64 0;
-      jitters = replicate 64 0;
-      responses = replicate 64 0;
-      sizes = replicate 64 0;
-      thresholds = replicate 64 0;
-      periods = periods;
-    }
+abbrev pub transactionsIn : List ℕ → List ℕ
+transactionsIn fields = take 64 (drop 64 fields)
+
+abbrev pub prioritiesIn : List ℕ → List ℕ
+prioritiesIn fields = take 64 (drop 128 fields)
+
+abbrev pub offsetsIn : List ℕ → List ℕ
+offsetsIn fields = take 64 (drop 192 fields)
+
+abbrev pub jittersIn : List ℕ → List ℕ
+jittersIn fields = take 64 (drop 256 fields)
+
+abbrev pub responsesIn : List ℕ → List ℕ
+responsesIn fields = take 64 (drop 320 fields)
+
+abbrev pub sizesIn : List ℕ → List ℕ
+sizesIn fields = take 64 (drop 384 fields)
+
+abbrev pub thresholdsIn : List ℕ → List ℕ
+thresholdsIn fields = take 64 (drop 448 fields)
+
+abbrev pub periodsIn : List ℕ → List ℕ
+periodsIn fields = take 64 (drop 512 fields)
+
+-- each field of the first n tasks by their places, and the periods of their transactions; 0 beyond them
+pub record FieldsTo (rs : List (List ℕ)) (n : ℕ) (fields : List ℕ) : Type 0 where
+  pub whole : length fields ≡ 576
+  pub ids : idsIn fields ≡ column n (λ i. taskAt rs i .id)
+  pub transactions : transactionsIn fields ≡ column n (λ i. taskAt rs i .transaction)
+  pub priorities : prioritiesIn fields ≡ column n (λ i. taskAt rs i .priority)
+  pub offsets : offsetsIn fields ≡ column n (λ i. taskAt rs i .offset)
+  pub jitters : jittersIn fields ≡ column n (λ i. taskAt rs i .jitter)
+  pub responses : responsesIn fields ≡ column n (λ i. taskAt rs i .response)
+  pub sizes : sizesIn fields ≡ column n (λ i. taskAt rs i .size)
+  pub thresholds : thresholdsIn fields ≡ column n (λ i. taskAt rs i .threshold)
+  pub periods : periodsIn fields ≡ column n (periodAt rs)
+
+-- the fields of all tasks of a table, of which there are n
+pub record TasksRead (rs : List (List ℕ)) (n : ℕ) (fields : List ℕ) : Type 0 where
+  pub count : n ≡ taskCount rs
+  pub columns : FieldsTo rs (taskCount rs) fields
 
 -- cell j of row i is set where a pair forbids that the task at place i is preempted by the one at place j
 unfoldable pub barredMap : List (List ℕ) → List ℕ
 barredMap rs = mapFrom (taskCount rs) (λ i j. barred rs (taskAt rs i .id) (taskAt rs j .id))
 
 -- the task at a place, as it was read
-abbrev pub taskIn : Tasks → ℕ → Task
-taskIn t i =
+abbrev pub taskIn : List ℕ → ℕ → Task
+taskIn fields i =
     record {
-      id = getD (t .ids) i 0;
-      transaction = getD (t .transactions) i 0;
-      priority = getD (t .priorities) i 0;
-      offset = getD (t .offsets) i 0;
-      jitter = getD (t .jitters) i 0;
-      response = getD (t .responses) i 0;
-      size = getD (t .sizes) i 0;
-      threshold = getD (t .thresholds) i 0;
+      id = getD fields i 0;
+      transaction = getD fields (64 + i) 0;
+      priority = getD fields (128 + i) 0;
+      offset = getD fields (192 + i) 0;
+      jitter = getD fields (256 + i) 0;
+      response = getD fields (320 + i) 0;
+      size = getD fields (384 + i) 0;
+      threshold = getD fields (448 + i) 0;
     }
 
--- the task at a place with what a decision asks of the one that is preempted; the other fields are 0
-abbrev pub lowerAt : List ℕ → List ℕ → List ℕ → List ℕ → ℕ → Task
-lowerAt transactions offsets responses thresholds i =
-    record {
-      id = 0;
-      transaction = getD transactions i 0;
-      priority = 0;
-      offset = getD offsets i 0;
-      jitter = 0;
-      response = getD responses i 0;
-      size = 0;
-      threshold = getD thresholds i 0;
-    }
+-- the decision for the task at place i and another, from the fields as they were read and the bits of those that a pair bars
+unfoldable pub decidedOn : List ℕ → ℕ → ℕ → ℕ → Bool
+decidedOn fields bars i j = mayPreempt (getD fields (512 + i) 0) (bitAt bars j) (taskIn fields i) (taskIn fields j)
 
--- and with what it asks of the one that preempts
-abbrev pub upperAt : List ℕ → List ℕ → List ℕ → List ℕ → ℕ → Task
-upperAt transactions priorities offsets jitters j =
-    record {
-      id = 0;
-      transaction = getD transactions j 0;
-      priority = getD priorities j 0;
-      offset = getD offsets j 0;
-      jitter = getD jitters j 0;
-      response = 0;
-      size = 0;
-      threshold = 0;
-    }
-
--- the decision for two places, from the periods, the forbidden pairs and the tasks of either side by their places
-abbrev pub decidedOn : List ℕ → List ℕ → (ℕ → Task) → (ℕ → Task) → ℕ → ℕ → Bool
-decidedOn periods rows lower upper i j = mayPreempt (getD periods i 0) (cell rows i j) (lower i) (upper j)
-
--- the same, from the tasks and the forbidden pairs as they were read
-unfoldable pub decidedBy : Tasks → List ℕ → ℕ → ℕ → Bool
-decidedBy t rows i j = mayPreempt (getD (t .periods) i 0) (cell rows i j) (taskIn t i) (taskIn t j)
+-- the same, from the rows of all that pairs forbid
+abbrev pub decidedBy : List ℕ → List ℕ → ℕ → ℕ → Bool
+decidedBy fields rows i = decidedOn fields (getD rows i 0) i

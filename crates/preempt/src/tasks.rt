@@ -7,8 +7,7 @@ ghost use lib.ListN.{length, getD};
 ghost use Rattle.rules.specs.Blocks.{records};
 ghost use Rattle.rules.specs.Records.{jitterOf, thresholdOf, taskOf, transactions, tasks, taskCount, periodIn, periodAt};
 ghost use Rattle.rules.specs.Refusals.{accepted, tableVerdict};
-ghost use Rattle.preempt.specs.Bits.{column};
-ghost use Rattle.preempt.specs.Tasks.{noTasks, TasksRead};
+ghost use Rattle.preempt.specs.Tasks.{TasksRead, taskIn, idsIn, transactionsIn, prioritiesIn, sizesIn, thresholdsIn};
 use image::bytes::byte_at;
 use image::bytes::four_bytes;
 use image::bytes::two_bytes;
@@ -17,18 +16,12 @@ use rules::Task;
 use table::count::count_kind;
 use table::place::place_from;
 
-// Each field of the tasks by their places, and the period of each task's transaction; 0 beyond the tasks.
+// What is read of the tasks: how many they are, and their fields in columns of 64 by their places, one column behind the
+// other: ids, transactions, priorities, offsets, jitters, responses, sizes, thresholds, and the periods of their
+// transactions; 0 beyond the tasks.
 pub struct Tasks {
     pub count: usize,
-    pub ids: [u32; 64],
-    pub transactions: [u32; 64],
-    pub priorities: [u32; 64],
-    pub offsets: [u32; 64],
-    pub jitters: [u32; 64],
-    pub responses: [u32; 64],
-    pub sizes: [u32; 64],
-    pub thresholds: [u32; 64],
-    pub periods: [u32; 64],
+    pub fields: [u32; 576],
 }
 
 // A jitter, where one that is missing is read as the period of the task's transaction.
@@ -109,60 +102,81 @@ pub fn period_at(image: &[u8], first: usize, place: usize) -> u32
     period_in(image, first, transaction)
 }
 
-// The periods of the tasks' transactions by the places of the tasks, 0 beyond them.
-fn read_periods(image: &[u8], first: usize, count: usize) -> [u32; 64]
-    requires { ⌜ accepted (tableVerdict (now image)) ≡ true ⌝ }
-    requires { ⌜ (first ≡ length (transactions (records (now image)))) × (count ≡ taskCount (records (now image))) ⌝ }
-    ensures { λ r. ⌜ r ≡ column count (periodAt (records (now (image .entry)))) ⌝ }
-{
-    let mut periods = [0u32; 64];
-    let mut i: usize = 0;
-    while i < count {
-        periods[i] = period_at(image, first, i);
-        i += 1;
-    }
-    periods
-}
-
-// No task read yet of so many, whose transactions have these periods.
-fn no_tasks(count: usize, periods: [u32; 64]) -> Tasks
-    ensures { λ r. ⌜ r ≡ noTasks count periods ⌝ }
-{
-    let none = [0u32; 64];
-    Tasks {
-        count,
-        ids: none,
-        transactions: none,
-        priorities: none,
-        offsets: none,
-        jitters: none,
-        responses: none,
-        sizes: none,
-        thresholds: none,
-        periods,
-    }
-}
-
 // The tasks of an accepted table.
 pub fn read_tasks(image: &[u8]) -> Tasks
     requires { ⌜ accepted (tableVerdict (now image)) ≡ true ⌝ }
-    ensures { λ r. ⌜ TasksRead (records (now (image .entry))) r ⌝ }
+    ensures { λ r. ⌜ TasksRead (records (now (image .entry))) (r .count) (r .fields) ⌝ }
 {
     let first = count_kind(image, 1);
     let count = count_kind(image, 2);
-    let mut tasks = no_tasks(count, read_periods(image, first, count));
+    let mut fields = [0u32; 576];
     let mut i: usize = 0;
     while i < count {
-        let task = task_at(image, first, i, tasks.periods[i]);
-        tasks.ids[i] = task.id;
-        tasks.transactions[i] = task.transaction;
-        tasks.priorities[i] = task.priority;
-        tasks.offsets[i] = task.offset;
-        tasks.jitters[i] = task.jitter;
-        tasks.responses[i] = task.response;
-        tasks.sizes[i] = task.size;
-        tasks.thresholds[i] = task.threshold;
+        let period = period_at(image, first, i);
+        let task = task_at(image, first, i, period);
+        fields[i] = task.id;
+        fields[64 + i] = task.transaction;
+        fields[128 + i] = task.priority;
+        fields[192 + i] = task.offset;
+        fields[256 + i] = task.jitter;
+        fields[320 + i] = task.response;
+        fields[384 + i] = task.size;
+        fields[448 + i] = task.threshold;
+        fields[512 + i] = period;
         i += 1;
     }
-    tasks
+    Tasks { count, fields }
+}
+
+// The task at a place, as it was read.
+pub fn task_in(fields: &[u32; 576], i: usize) -> Task
+    requires { ⌜ i < 64 ⌝ }
+    ensures { λ r. ⌜ r ≡ taskIn (now (fields .entry)) i ⌝ }
+{
+    Task {
+        id: fields[i],
+        transaction: fields[64 + i],
+        priority: fields[128 + i],
+        offset: fields[192 + i],
+        jitter: fields[256 + i],
+        response: fields[320 + i],
+        size: fields[384 + i],
+        threshold: fields[448 + i],
+    }
+}
+
+// The columns that others read by themselves.
+pub fn ids_of(fields: &[u32; 576]) -> &[u32]
+    ensures { λ r. ⌜ now r ≡ idsIn (now (fields .entry)) ⌝ }
+{
+    let all = &fields[..];
+    &all[0..64]
+}
+
+pub fn transactions_of(fields: &[u32; 576]) -> &[u32]
+    ensures { λ r. ⌜ now r ≡ transactionsIn (now (fields .entry)) ⌝ }
+{
+    let all = &fields[..];
+    &all[64..128]
+}
+
+pub fn priorities_of(fields: &[u32; 576]) -> &[u32]
+    ensures { λ r. ⌜ now r ≡ prioritiesIn (now (fields .entry)) ⌝ }
+{
+    let all = &fields[..];
+    &all[128..192]
+}
+
+pub fn sizes_of(fields: &[u32; 576]) -> &[u32]
+    ensures { λ r. ⌜ now r ≡ sizesIn (now (fields .entry)) ⌝ }
+{
+    let all = &fields[..];
+    &all[384..448]
+}
+
+pub fn thresholds_of(fields: &[u32; 576]) -> &[u32]
+    ensures { λ r. ⌜ now r ≡ thresholdsIn (now (fields .entry)) ⌝ }
+{
+    let all = &fields[..];
+    &all[448..512]
 }

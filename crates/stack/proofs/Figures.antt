@@ -11,8 +11,7 @@ use Rattle.rules.specs.Records.{numberOf, transactions, taskCount, taskAt}
 use Rattle.rules.specs.Numbers.{sumTo, largestTo}
 use Rattle.rules.specs.Preempt.{cell, bitAt}
 use Rattle.rules.proofs.Table.Shape.{Shape}
-use Rattle.preempt.specs.declared.tasks.Tasks.{Tasks}
-use Rattle.preempt.specs.Tasks.{TasksRead}
+use Rattle.preempt.specs.Tasks.{TasksRead, idsIn, transactionsIn, prioritiesIn, sizesIn, thresholdsIn}
 use Rattle.stack.specs.declared.call.Found.{Found}
 use Rattle.stack.specs.Paths.{sizeIn}
 use Rattle.stack.specs.Levels.{levelsOf}
@@ -86,25 +85,25 @@ largest-all n R cover S r below h =
     everywhere [] w = tt
     everywhere (i ∷ c) w = (true-T (bitAt cover i) (below i ∙ lt-ltb i n (w .0)), everywhere c (w .1))
 
-module _ (rs : List (List ℕ)) (lent : List ℕ) (t : Tasks) (shape : Shape rs) (read : TasksRead rs t) where
-  sizes-same : sizeIn (t .sizes) ≡ sizeAt rs
-  sizes-same = fun-ext (field-total rs (λ task. task .size) (t .sizes) (shape .few-tasks) refl (read .sizes))
+module _ (rs : List (List ℕ)) (lent : List ℕ) (count : ℕ) (fields : List ℕ) (shape : Shape rs) (read : TasksRead rs count fields) where
+  sizes-same : sizeIn (sizesIn fields) ≡ sizeAt rs
+  sizes-same = fun-ext (field-total rs (λ task. task .size) (sizesIn fields) (shape .few-tasks) refl (read .columns .sizes))
 
-  pub priorities-same : (λ (i : ℕ). getD (t .priorities) i 0) ≡ priorityAt rs
-  priorities-same = fun-ext (field-total rs (λ task. task .priority) (t .priorities) (shape .few-tasks) refl (read .priorities))
+  pub priorities-same : (λ (i : ℕ). getD (prioritiesIn fields) i 0) ≡ priorityAt rs
+  priorities-same = fun-ext (field-total rs (λ task. task .priority) (prioritiesIn fields) (shape .few-tasks) refl (read .columns .priorities))
 
-  thresholds-same : (i : ℕ) → getD (t .thresholds) i 0 ≡ taskAt rs i .threshold
-  thresholds-same = field-total rs (λ task. task .threshold) (t .thresholds) (shape .few-tasks) refl (read .thresholds)
+  thresholds-same : (i : ℕ) → getD (thresholdsIn fields) i 0 ≡ taskAt rs i .threshold
+  thresholds-same = field-total rs (λ task. task .threshold) (thresholdsIn fields) (shape .few-tasks) refl (read .columns .thresholds)
 
-  pub numbers-same : (i : ℕ) → getD (t .transactions) i 0 ≡ taskAt rs i .transaction
-  numbers-same = field-total rs (λ task. task .transaction) (t .transactions) (shape .few-tasks) refl (read .transactions)
+  pub numbers-same : (i : ℕ) → getD (transactionsIn fields) i 0 ≡ taskAt rs i .transaction
+  numbers-same = field-total rs (λ task. task .transaction) (transactionsIn fields) (shape .few-tasks) refl (read .columns .transactions)
 
-  pub ids-same : (λ (i : ℕ). getD (t .ids) i 0) ≡ idAt rs
-  ids-same = fun-ext (field-total rs (λ task. task .id) (t .ids) (shape .few-tasks) refl (read .ids))
+  pub ids-same : (λ (i : ℕ). getD (idsIn fields) i 0) ≡ idAt rs
+  ids-same = fun-ext (field-total rs (λ task. task .id) (idsIn fields) (shape .few-tasks) refl (read .columns .ids))
 
   -- rows in which a cell counts as it does for the bounds are the relation
   pub rows-same : (rows : List ℕ)
-      → ((i j : ℕ) → cell rows i j ≡ ((ltb i (t .count) && ltb j (t .count)) && (ltb (getD (t .thresholds) i 0) (getD (t .priorities) j 0) && cell lent i j)))
+      → ((i j : ℕ) → cell rows i j ≡ ((ltb i count && ltb j count) && (ltb (getD (thresholdsIn fields) i 0) (getD (prioritiesIn fields) j 0) && cell lent i j)))
       → cell rows ≡ related rs lent
   unfolding related
   rows-same rows cells =
@@ -112,38 +111,38 @@ module _ (rs : List (List ℕ)) (lent : List ℕ) (t : Tasks) (shape : Shape rs)
       (λ i.
       fun-ext
       (λ j.
-      let one : (k : ℕ) → getD (t .priorities) k 0 ≡ priorityAt rs k = λ k. ap (λ (f : ℕ → ℕ). f k) priorities-same in
+      let one : (k : ℕ) → getD (prioritiesIn fields) k 0 ≡ priorityAt rs k = λ k. ap (λ (f : ℕ → ℕ). f k) priorities-same in
       cells i j ∙ rw (read .count, thresholds-same i, one j)))
 
   module _ (rows : List ℕ) (same : cell rows ≡ related rs lent) where
-    pub chain-found : (c : List ℕ) → Heaviest (t .count) (cell rows) (sizeIn (t .sizes)) (λ i. i) c
+    pub chain-found : (c : List ℕ) → Heaviest count (cell rows) (sizeIn (sizesIn fields)) (λ i. i) c
         → Heaviest (taskCount rs) (related rs lent) (sizeAt rs) (idAt rs) c
     chain-found c h =
         heaviest-ids (taskCount rs) (related rs lent) (sizeAt rs) (idAt rs) c (shape .tasks-rise)
         (subst (λ (n : ℕ). Heaviest n (related rs lent) (sizeAt rs) (λ i. i) c) (read .count)
-        (subst (λ (R : ℕ → ℕ → Bool). Heaviest (t .count) R (sizeAt rs) (λ i. i) c) same
-        (subst (λ (S : ℕ → ℕ). Heaviest (t .count) (cell rows) S (λ i. i) c) sizes-same h)))
+        (subst (λ (R : ℕ → ℕ → Bool). Heaviest count R (sizeAt rs) (λ i. i) c) same
+        (subst (λ (S : ℕ → ℕ). Heaviest count (cell rows) S (λ i. i) c) sizes-same h)))
 
     -- a bound over lists of the rows is one over lists of the relation
-    over-relation : (Lists : ℕ → (ℕ → ℕ → Bool) → List ℕ → Type 0) (r : ℕ) → Largest (Lists (t .count) (cell rows)) (weight (sizeIn (t .sizes))) r
+    over-relation : (Lists : ℕ → (ℕ → ℕ → Bool) → List ℕ → Type 0) (r : ℕ) → Largest (Lists count (cell rows)) (weight (sizeIn (sizesIn fields))) r
         → Largest (Lists (taskCount rs) (related rs lent)) (weight (sizeAt rs)) r
     over-relation Lists r h =
         subst (λ (n : ℕ). Largest (Lists n (related rs lent)) (weight (sizeAt rs)) r) (read .count)
-        (subst (λ (R : ℕ → ℕ → Bool). Largest (Lists (t .count) R) (weight (sizeAt rs)) r) same
-        (subst (λ (S : ℕ → ℕ). Largest (Lists (t .count) (cell rows)) (weight S) r) sizes-same h))
+        (subst (λ (R : ℕ → ℕ → Bool). Largest (Lists count R) (weight (sizeAt rs)) r) same
+        (subst (λ (S : ℕ → ℕ). Largest (Lists count (cell rows)) (weight S) r) sizes-same h))
 
-    pub path-found : (r : ℕ) → Largest (Path (t .count) (cell rows)) (weight (sizeIn (t .sizes))) r
+    pub path-found : (r : ℕ) → Largest (Path count (cell rows)) (weight (sizeIn (sizesIn fields))) r
         → Largest (Path (taskCount rs) (related rs lent)) (weight (sizeAt rs)) r
     path-found r h = over-relation Path r h
 
-    pub own-found : (r : ℕ) → OwnPaths (t .count) rows (t .sizes) (t .transactions) (transactions rs) (length (transactions rs)) r → TransactionBound rs lent r
+    pub own-found : (r : ℕ) → OwnPaths count rows (sizesIn fields) (transactionsIn fields) (transactions rs) (length (transactions rs)) r → TransactionBound rs lent r
     own-found r own =
         record {
           each = own .each;
           bound = λ k l.
-              largest-as (taskCount rs) (related rs lent) (ownTask (t .transactions) (transactions rs) k) (inTransaction rs k) (sizeAt rs) (own .each k)
+              largest-as (taskCount rs) (related rs lent) (ownTask (transactionsIn fields) (transactions rs) k) (inTransaction rs k) (sizeAt rs) (own .each k)
               (λ i h. ap (λ (n : ℕ). eqb n (numberOf (getD (transactions rs) k []))) (numbers-same i))
-              (over-relation (λ n R c. Path n R c × All (ownTask (t .transactions) (transactions rs) k) c) (own .each k) (own .bound k l));
+              (over-relation (λ n R c. Path n R c × All (ownTask (transactionsIn fields) (transactions rs) k) c) (own .each k) (own .bound k l));
           total = own .total;
         }
 
@@ -151,15 +150,15 @@ module _ (rs : List (List ℕ)) (lent : List ℕ) (t : Tasks) (shape : Shape rs)
   abbrev levelSum : (ℕ → ℕ) → (ℕ → ℕ) → ℕ → ℕ
   levelSum P S n = sumTo (λ p. largestTo (λ i. cond (eqb (P i) p) (S i) 0) n) (largestTo P n + 1)
 
-  pub levels-found : levelsOf (t .priorities) (t .sizes) (t .count) ≡ levelBound rs
+  pub levels-found : levelsOf (prioritiesIn fields) (sizesIn fields) count ≡ levelBound rs
   levels-found =
-      ap (λ (P : ℕ → ℕ). levelSum P (sizeIn (t .sizes)) (t .count)) priorities-same
-      ∙ ap (λ (S : ℕ → ℕ). levelSum (priorityAt rs) S (t .count)) sizes-same
+      ap (λ (P : ℕ → ℕ). levelSum P (sizeIn (sizesIn fields)) count) priorities-same
+      ∙ ap (λ (S : ℕ → ℕ). levelSum (priorityAt rs) S count) sizes-same
       ∙ ap (levelSum (priorityAt rs) (sizeAt rs)) (read .count)
 
   -- what was found over the rows of the relation is right for the table and the map
   pub found-for : (rows : List ℕ) (found : Found) → cell rows ≡ related rs lent
-      → FoundOver (t .count) rows (t .sizes) (t .priorities) (t .transactions) (transactions rs) found → FoundFor rs lent found
+      → FoundOver count rows (sizesIn fields) (prioritiesIn fields) (transactionsIn fields) (transactions rs) found → FoundFor rs lent found
   found-for rows found same over =
       record {
         right =

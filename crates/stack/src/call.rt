@@ -18,8 +18,12 @@ use crate::path::path_bound;
 use crate::related::related_rows;
 use crate::search::heaviest_chain;
 use preempt::places::wide;
-use preempt::tasks::Tasks;
+use preempt::tasks::ids_of;
+use preempt::tasks::priorities_of;
 use preempt::tasks::read_tasks;
+use preempt::tasks::sizes_of;
+use preempt::tasks::thresholds_of;
+use preempt::tasks::transactions_of;
 use rules::Bounds;
 use rules::Verdict;
 use table::table_verdict;
@@ -81,21 +85,19 @@ fn find_over(
     }
 }
 
-// The chain and the bounds of an accepted table over a lent map.
-fn find(image: &[u8], tasks: Tasks, map: &[u64]) -> Found
+// The chain and the bounds of an accepted table over a lent map, from what was read of its tasks.
+fn find(image: &[u8], fields: &[u32; 576], count: usize, map: &[u64]) -> Found
     requires { ⌜ accepted (tableVerdict (now image)) ≡ true ⌝ }
-    requires { ⌜ TasksRead (records (now image)) tasks ⌝ }
+    requires { ⌜ TasksRead (records (now image)) count (now fields) ⌝ }
     requires { ⌜ 64 ≤ length (now map) ⌝ }
     ensures { λ r. ⌜ FoundFor (records (now (image .entry))) (now (map .entry)) r ⌝ }
 {
-    let count = tasks.count;
-    let thresholds = tasks.thresholds;
-    let priorities = tasks.priorities;
-    let sizes = tasks.sizes;
-    let numbers = tasks.transactions;
-    let rows = related_rows(&thresholds, &priorities, map, count);
-    let order = by_falling_priority(&priorities, count);
-    find_over(image, &priorities, &sizes, &numbers, &rows, &order, count)
+    let priorities = priorities_of(fields);
+    let sizes = sizes_of(fields);
+    let numbers = transactions_of(fields);
+    let rows = related_rows(thresholds_of(fields), priorities, map, count);
+    let order = by_falling_priority(priorities, count);
+    find_over(image, priorities, sizes, numbers, &rows, &order, count)
 }
 
 // Writes the ids of the chain, by its places among the ids of all tasks, over the start of the room.
@@ -129,11 +131,10 @@ pub fn find_bounds(image: &[u8], map: &[u64], ids: &mut [u16]) -> Bounds
         return refused(11, 0);
     }
     let tasks = read_tasks(image);
-    let found = find(image, tasks, map);
+    let found = find(image, &tasks.fields, tasks.count, map);
     let places = found.places;
     let length = found.length;
-    let all = tasks.ids;
-    write_ids(places, length, &all, ids);
+    write_ids(places, length, ids_of(&tasks.fields), ids);
     Bounds {
         number: 0,
         place: 0,

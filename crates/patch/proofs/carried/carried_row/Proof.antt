@@ -1,5 +1,4 @@
--- A touched task's row is decided. For any other the loop keeps the sum of the powers of the cells passed, which leaves room
--- for the next.
+-- The loop keeps the sum of the powers of the cells passed, which leaves room for the next.
 use Prim.Native.Nat.{ℕ, _-_, _≤_}
 use mathlib.Core.Path.{_≡_, ap, sym, _∙_}
 use mathlib.Core.List.{List}
@@ -11,36 +10,28 @@ use borrow.Author.Needs.{needs}
 use lib.Dec.{ltb}
 use Rattle.rules.proofs.Numbers.{sumTo-zero}
 use Rattle.rules.proofs.Bits.{bitsTo, bits-more, bits-same, bits-room, bits-end}
-use Rattle.preempt.specs.Tasks.{upperAt}
+use Rattle.preempt.specs.Tasks.{taskIn}
 use Rattle.patch.specs.declared.carried.Decision.{Decision}
-use Rattle.patch.specs.Carried.{cellCarried, cellOf}
+use Rattle.patch.specs.Carried.{cellCarried}
 use Rattle.patch.proofs.carried.carried_row.Statement.{statement}
 use Rattle.patch.proofs.carried.carried_row.Tie as tie
 
 -- whether cell j is set in the row of this decision
-abbrev is-cell : List ℕ → List ℕ → List ℕ → List ℕ → ℕ → Decision → ℕ → List ℕ → ℕ → ℕ → Bool
-is-cell transactions priorities offsets jitters count decision touched old before j =
-    ltb j count && cellCarried decision (upperAt transactions priorities offsets jitters j) touched old before j
+abbrev is-cell : List ℕ → ℕ → Decision → ℕ → List ℕ → ℕ → ℕ → Bool
+is-cell fields count decision touched old before j = ltb j count && cellCarried decision (taskIn fields j) touched old before j
 
 abbrev Inv-loop : tie.InvT-loop
-Inv-loop transactions priorities offsets jitters count decision touched old before bits₀ j₀ bits j =
-    (j ≤ count) × (bits ≡ bitsTo (is-cell transactions priorities offsets jitters count decision touched old before) j)
+Inv-loop fields count decision touched old before bits₀ j₀ bits j =
+    (j ≤ count) × (bits ≡ bitsTo (is-cell fields count decision touched old before) j)
 
 abbrev μ-loop : tie.MeasureT-loop
-μ-loop transactions priorities offsets jitters count decision touched old before bits₀ j₀ bits j = count - j
-
-row-requires : tie.Need-row-requires Inv-loop μ-loop
-row-requires c κs = search needs
-
-returns : tie.Need-returns Inv-loop μ-loop
-unfolding cellOf
-returns c = rw (c .before .if1 .taken) (c .row .ensures)
+μ-loop fields count decision touched old before bits₀ j₀ bits j = count - j
 
 loop-holds : tie.Need-loop-holds Inv-loop μ-loop
 loop-holds c = (omega arith, sym (sumTo-zero _))
 
-upper-at-requires : tie.Need-upper-at-requires Inv-loop μ-loop
-upper-at-requires c κs = search needs
+task-in-requires : tie.Need-task-in-requires Inv-loop μ-loop
+task-in-requires c κs = search needs
 
 is-carried-set-requires : tie.Need-is-carried-set-requires Inv-loop μ-loop
 is-carried-set-requires c κs = search needs
@@ -50,9 +41,9 @@ power-requires c κs = search needs
 
 add-bits : tie.Need-add-bits Inv-loop μ-loop
 add-bits c =
-    let a = c .before .before .before .before .before .before .before .before .args in
+    let a = c .before .before .before .before .before .before .before .args in
     let s = c .before .before .before .before .before .loop in
-    omega (arith, c .power .ensures, s .inv .1, bits-room (is-cell (a .transactions .now) (a .priorities .now) (a .offsets .now) (a .jitters .now) (a .count) (a .decision) (a .touched) (a .old .now) (a .before)) (s .j) (omega arith))
+    omega (arith, c .power .ensures, s .inv .1, bits-room (is-cell (a .fields .now) (a .count) (a .decision) (a .touched) (a .old .now) (a .before)) (s .j) (omega arith))
 
 add-j : tie.Need-add-j Inv-loop μ-loop
 add-j c = search needs
@@ -62,11 +53,11 @@ loop-less c = search needs
 
 loop-again : tie.Need-loop-again Inv-loop μ-loop
 loop-again c =
-    let a = c .before .before .before .before .before .before .before .args in
+    let a = c .before .before .before .before .before .before .args in
     let s = c .before .before .before .before .loop in
-    let test = is-cell (a .transactions .now) (a .priorities .now) (a .offsets .now) (a .jitters .now) (a .count) (a .decision) (a .touched) (a .old .now) (a .before) in
+    let test = is-cell (a .fields .now) (a .count) (a .decision) (a .touched) (a .old .now) (a .before) in
     let below = lt-ltb (s .j) (a .count) (c .before .before .before .loop-test .taken) in
-    let decided : test (s .j) ≡ c .before .is-carried-set .result = rw (below, ← c .before .before .upper-at .ensures) (sym (c .before .is-carried-set .ensures)) in
+    let decided : test (s .j) ≡ c .before .is-carried-set .result = rw (below, ← c .before .before .task-in .ensures) (sym (c .before .is-carried-set .ensures)) in
     ⊎-elim
     (λ w.
     let set : test (s .j) ≡ true = decided ∙ w .0 .taken in
@@ -74,18 +65,17 @@ loop-again c =
     (λ w.
     let unset : test (s .j) ≡ false = decided ∙ w .0 .left in
     (omega arith, w .1 ∙ s .inv .1 ∙ sym (bits-same test (s .j) unset)))
-    (c .if2 .came)
+    (c .if1 .came)
 
-returns-2 : tie.Need-returns-2 Inv-loop μ-loop
-unfolding cellOf cellCarried
-returns-2 c =
-    let a = c .before .before .before .before .args in
-    let test = is-cell (a .transactions .now) (a .priorities .now) (a .offsets .now) (a .jitters .now) (a .count) (a .decision) (a .touched) (a .old .now) (a .before) in
+returns : tie.Need-returns Inv-loop μ-loop
+unfolding cellCarried
+returns c =
+    let a = c .before .before .before .args in
+    let test = is-cell (a .fields .now) (a .count) (a .decision) (a .touched) (a .old .now) (a .before) in
     let end : c .before .loop .j ≡ a .count = omega arith in
-    rw (c .before .before .if1 .left)
-    (c .before .loop .inv .1
+    c .before .loop .inv .1
     ∙ ap (bitsTo test) end
-    ∙ sym (bits-end test (a .count) 64 (omega arith) (λ j h. rw (le-ltb j (a .count) h))))
+    ∙ sym (bits-end test (a .count) 64 (omega arith) (λ j h. rw (le-ltb j (a .count) h)))
 
 pub carried-row-spec : {M : Type 1} → statement M
 carried-row-spec =
@@ -93,14 +83,12 @@ carried-row-spec =
     (tie.spec
     Inv-loop
     μ-loop
-    row-requires
-    returns
     loop-holds
-    upper-at-requires
+    task-in-requires
     is-carried-set-requires
     power-requires
     add-bits
     add-j
     loop-less
     loop-again
-    returns-2)
+    returns)

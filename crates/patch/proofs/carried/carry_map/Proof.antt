@@ -13,81 +13,111 @@ use Rattle.rules.specs.Refusals.{accepted, tableVerdict}
 use Rattle.rules.proofs.Table.Shape.{Shape}
 use Rattle.rules.proofs.Table.Listed.{table-of}
 use Rattle.table.specs.Numbers.{Directory}
-use Rattle.preempt.specs.Tasks.{TasksRead, barredMap}
-use Rattle.preempt.specs.declared.tasks.Tasks.{Tasks}
+use Rattle.preempt.specs.Tasks.{TasksRead, idsIn, transactionsIn, barredMap}
+use Rattle.preempt.specs.Bits.{column}
 use Rattle.preempt.proofs.Columns.{column-length}
 use Rattle.preempt.proofs.Reading.{ids-directory}
+use Rattle.patch.specs.Touched.{Marks, touchedAt}
 use Rattle.patch.proofs.Carrying.{carried-read, touched-counted}
 use borrow.Author.Needs.{needs}
 use Rattle.patch.proofs.carried.carry_map.Statement.{statement}
 use Rattle.patch.proofs.carried.carry_map.Tie as tie
 
 -- the ids that are read of an accepted table rise, and there are at most 64
-directory : (image : List ℕ) → Bytes image → accepted (tableVerdict image) ≡ true → (t : Tasks) → TasksRead (records image) t → Directory (tasks (records image)) (t .ids) (t .count)
-directory image bytes table t read = ids-directory (records image) t (table-of image bytes table .0) read
+directory : (image : List ℕ) → Bytes image → accepted (tableVerdict image) ≡ true → (count : ℕ) (fields : List ℕ) → TasksRead (records image) count fields → Directory (tasks (records image)) (idsIn fields) count
+directory image bytes table count fields read = ids-directory (records image) count fields (table-of image bytes table .0) read
 
-few-read : (image : List ℕ) → Bytes image → accepted (tableVerdict image) ≡ true → (t : Tasks) → TasksRead (records image) t → t .count ≤ 64
-few-read image bytes table t read = omega (arith, read .count, table-of image bytes table .0 .few-tasks)
+few-read : (image : List ℕ) → Bytes image → accepted (tableVerdict image) ≡ true → (count : ℕ) (fields : List ℕ) → TasksRead (records image) count fields → count ≤ 64
+few-read image bytes table count fields read = omega (arith, read .count, table-of image bytes table .0 .few-tasks)
 
 read-tasks-requires : tie.Need-read-tasks-requires
 read-tasks-requires c κs = search needs
 
-slice-aggregate-read-barred : tie.Need-slice-aggregate-read-barred
-slice-aggregate-read-barred c = search needs
+ids-of-requires : tie.Need-ids-of-requires
+ids-of-requires c κs = search needs
 
 read-barred-requires : tie.Need-read-barred-requires
 read-barred-requires c κs =
-    let start = c .before .before .before .before .before .before .before in
-    (start .pre .0 .1, directory (start .args .image .now) (λ k. c .before .before .before .before .shared-slice-known3 .given k .fits) (start .pre .0 .1) (c .before .before .read-tasks .result) (c .before .before .read-tasks .ensures))
+    let read = c .before .before .before in
+    let start = read .before .before .before .before .before in
+    let image = start .args .image .now in
+    let bytes : Bytes image = λ k. read .before .before .shared-slice-known3 .given k .fits in
+    let tasks-read = read .read-tasks in
+    (start .pre .0 .1, rw (c .ids-of .ensures) (directory image bytes (start .pre .0 .1) (tasks-read .result .count) (tasks-read .result .fields) (tasks-read .ensures)))
 
-slice-aggregate-touched-tasks : tie.Need-slice-aggregate-touched-tasks
-slice-aggregate-touched-tasks c = search needs
-
-slice-aggregate-touched-tasks-2 : tie.Need-slice-aggregate-touched-tasks-2
-slice-aggregate-touched-tasks-2 c = search needs
+transactions-of-requires : tie.Need-transactions-of-requires
+transactions-of-requires c κs = search needs
 
 touched-tasks-requires : tie.Need-touched-tasks-requires
 touched-tasks-requires c κs =
-    let d = directory (c .before .before .before .before .before .before .before .before .before .before .before .args .image .now) (λ k. c .before .before .before .before .before .before .before .before .shared-slice-known3 .given k .fits) (c .before .before .before .before .before .before .before .before .before .before .before .pre .0 .1) (c .before .before .before .before .before .before .read-tasks .result) (c .before .before .before .before .before .before .read-tasks .ensures) in
-    let few = few-read (c .before .before .before .before .before .before .before .before .before .before .before .args .image .now) (λ k. c .before .before .before .before .before .before .before .before .shared-slice-known3 .given k .fits) (c .before .before .before .before .before .before .before .before .before .before .before .pre .0 .1) (c .before .before .before .before .before .before .read-tasks .result) (c .before .before .before .before .before .before .read-tasks .ensures) in
-    let long = ap length (c .before .before .before .before .before .before .read-tasks .ensures .transactions) ∙ column-length (taskCount (records (c .before .before .before .before .before .before .before .before .before .before .before .args .image .now))) (λ i. taskAt (records (c .before .before .before .before .before .before .before .before .before .before .before .args .image .now)) i .transaction) in
-    ((few, (d .room, omega arith)), (d .rising, c .before .before .before .before .before .before .before .before .before .before .before .pre .1 .1))
-
-slice-aggregate-old-places : tie.Need-slice-aggregate-old-places
-slice-aggregate-old-places c = search needs
+    let read = c .before .before .before .before .before .before in
+    let start = read .before .before .before .before .before in
+    let image = start .args .image .now in
+    let bytes : Bytes image = λ k. read .before .before .shared-slice-known3 .given k .fits in
+    let tasks-read = read .read-tasks in
+    let ids = directory image bytes (start .pre .0 .1) (tasks-read .result .count) (tasks-read .result .fields) (tasks-read .ensures) in
+    let few = few-read image bytes (start .pre .0 .1) (tasks-read .result .count) (tasks-read .result .fields) (tasks-read .ensures) in
+    let long = ap length (tasks-read .ensures .columns .transactions) ∙ column-length (taskCount (records image)) (λ i. taskAt (records image) i .transaction) in
+    let named = c .before .before .before .ids-of .ensures in
+    ((few, (rw named (ids .room), rw (c .transactions-of .ensures) (omega arith))), (rw named (ids .rising), start .pre .1 .1))
 
 old-places-requires : tie.Need-old-places-requires
 old-places-requires c κs =
-    let d = directory (c .before .before .before .before .before .before .before .before .before .before .before .before .before .args .image .now) (λ k. c .before .before .before .before .before .before .before .before .before .before .shared-slice-known3 .given k .fits) (c .before .before .before .before .before .before .before .before .before .before .before .before .before .pre .0 .1) (c .before .before .before .before .before .before .before .before .read-tasks .result) (c .before .before .before .before .before .before .before .before .read-tasks .ensures) in
-    let few = few-read (c .before .before .before .before .before .before .before .before .before .before .before .before .before .args .image .now) (λ k. c .before .before .before .before .before .before .before .before .before .before .shared-slice-known3 .given k .fits) (c .before .before .before .before .before .before .before .before .before .before .before .before .before .pre .0 .1) (c .before .before .before .before .before .before .before .before .read-tasks .result) (c .before .before .before .before .before .before .before .before .read-tasks .ensures) in
-    (c .before .before .before .before .before .before .before .before .before .before .before .before .before .pre .0 .0, (few, d .room))
+    let read = c .before .before .before .before .before .before .before in
+    let start = read .before .before .before .before .before in
+    let image = start .args .image .now in
+    let bytes : Bytes image = λ k. read .before .before .shared-slice-known3 .given k .fits in
+    let tasks-read = read .read-tasks in
+    let ids = directory image bytes (start .pre .0 .1) (tasks-read .result .count) (tasks-read .result .fields) (tasks-read .ensures) in
+    (start .pre .0 .0, (few-read image bytes (start .pre .0 .1) (tasks-read .result .count) (tasks-read .result .fields) (tasks-read .ensures), rw (c .before .before .before .before .ids-of .ensures) (ids .room)))
 
 slice-aggregate-carried-rows : tie.Need-slice-aggregate-carried-rows
 slice-aggregate-carried-rows c = search needs
 
 carried-rows-requires : tie.Need-carried-rows-requires
 carried-rows-requires c κs =
-    let few = few-read (c .before .before .before .before .before .before .before .before .before .before .before .before .before .before .before .args .image .now) (λ k. c .before .before .before .before .before .before .before .before .before .before .before .before .shared-slice-known3 .given k .fits) (c .before .before .before .before .before .before .before .before .before .before .before .before .before .before .before .pre .0 .1) (c .before .before .before .before .before .before .before .before .before .before .read-tasks .result) (c .before .before .before .before .before .before .before .before .before .before .read-tasks .ensures) in
-    let long = ap length (c .before .old-places .ensures) ∙ column-length (c .before .before .before .before .before .before .before .before .before .before .read-tasks .result .count) (λ i. placeOf (tasks (records (c .before .before .before .before .before .before .before .before .before .before .before .before .before .before .before .args .base .now))) (getD (c .before .before .before .before .before .before .before .before .before .before .read-tasks .result .ids) i 0)) in
-    (few, omega arith)
+    let read = c .before .before .before .before .before .before .before .before .before .before .before .before in
+    let start = read .before .before .before .before .before in
+    let image = start .args .image .now in
+    let bytes : Bytes image = λ k. read .before .before .shared-slice-known3 .given k .fits in
+    let tasks-read = read .read-tasks in
+    let old = c .before .before .before .before .old-places in
+    let long = ap length (old .ensures) ∙ column-length (tasks-read .result .count) _ in
+    (few-read image bytes (start .pre .0 .1) (tasks-read .result .count) (tasks-read .result .fields) (tasks-read .ensures), omega arith)
 
 count-places-requires : tie.Need-count-places-requires
-count-places-requires c κs = few-read (c .before .before .before .before .before .before .before .before .before .before .before .before .before .before .before .before .args .image .now) (λ k. c .before .before .before .before .before .before .before .before .before .before .before .before .before .shared-slice-known3 .given k .fits) (c .before .before .before .before .before .before .before .before .before .before .before .before .before .before .before .before .pre .0 .1) (c .before .before .before .before .before .before .before .before .before .before .before .read-tasks .result) (c .before .before .before .before .before .before .before .before .before .before .before .read-tasks .ensures)
+count-places-requires c κs =
+    let read = c .before .before .before .before .before .before .before .before .before .before .before .before .before in
+    let start = read .before .before .before .before .before in
+    let image = start .args .image .now in
+    let bytes : Bytes image = λ k. read .before .before .shared-slice-known3 .given k .fits in
+    let tasks-read = read .read-tasks in
+    few-read image bytes (start .pre .0 .1) (tasks-read .result .count) (tasks-read .result .fields) (tasks-read .ensures)
 
 returns : tie.Need-returns
 returns c =
-    let a = c .before .before .before .before .before .before .before .before .before .before .before .before .before .before .before .before .before .args in
-    let bs = records (a .base .now) in
-    let ps = records (a .patch .now) in
-    let made = c .before .before .before .before .before .before .before .before .before .before .before .before .before .before .before .before .before .pre .1 .0 in
-    let shape : Shape (outcome bs ps) = rw made at (table-of (a .image .now) (λ k. c .before .before .before .before .before .before .before .before .before .before .before .before .before .before .shared-slice-known3 .given k .fits) (c .before .before .before .before .before .before .before .before .before .before .before .before .before .before .before .before .before .pre .0 .1) .0) in
-    let read : TasksRead (outcome bs ps) (c .before .before .before .before .before .before .before .before .before .before .before .before .read-tasks .result) = rw made at (c .before .before .before .before .before .before .before .before .before .before .before .before .read-tasks .ensures) in
-    let barred : c .before .before .before .before .before .before .before .before .before .read-barred .result ≡ barredMap (outcome bs ps) = rw made at (c .before .before .before .before .before .before .before .before .before .read-barred .ensures) in
-    let set = c .before .before .before .before .before .touched-tasks in
-    let old = c .before .before .before .old-places in
+    let read = c .before .before .before .before .before .before .before .before .before .before .before .before .before .before in
+    let start = read .before .before .before .before .before in
+    let image = start .args .image .now in
+    let bytes : Bytes image = λ k. read .before .before .shared-slice-known3 .given k .fits in
+    let tasks-read = read .read-tasks in
+    let bs = records (start .args .base .now) in
+    let ps = records (start .args .patch .now) in
+    let made = start .pre .1 .0 in
+    let count = tasks-read .result .count in
+    let fields = tasks-read .result .fields in
+    let shape : Shape (outcome bs ps) = rw made at (table-of image bytes (start .pre .0 .1) .0) in
+    let whole : TasksRead (outcome bs ps) count fields = rw made at (tasks-read .ensures) in
+    let pairs = c .before .before .before .before .before .before .before .before .before .before .read-barred in
+    let barred : pairs .result ≡ barredMap (outcome bs ps) = rw made at (pairs .ensures) in
+    let named = c .before .before .before .before .before .before .before .before .before .before .before .ids-of .ensures in
+    let set = c .before .before .before .before .before .before .before .touched-tasks in
+    let marked : Marks count (touchedAt ps (idsIn fields) (transactionsIn fields)) (set .result) = rw (← named, ← c .before .before .before .before .before .before .before .before .transactions-of .ensures) (set .ensures) in
+    let old = c .before .before .before .before .before .before .old-places in
+    let placed : old .result ≡ column count (λ i. placeOf (tasks bs) (getD (idsIn fields) i 0)) = rw (← named) (old .ensures) in
     record {
-      map = c .before .carried-rows .ensures ∙ carried-read bs ps (c .before .before .before .before .before .before .before .before .before .before .before .before .read-tasks .result) (c .before .before .before .before .before .before .before .before .before .read-barred .result) (old .result) (set .result) shape read barred (set .ensures) (old .ensures) (a .rows .now);
-      touched = c .count-places .ensures ∙ touched-counted bs ps (c .before .before .before .before .before .before .before .before .before .before .before .before .read-tasks .result) (c .before .before .before .before .before .before .before .before .before .read-barred .result) (old .result) (set .result) shape read barred (set .ensures) (old .ensures);
+      map = c .before .carried-rows .ensures ∙ carried-read bs ps count fields (pairs .result) (old .result) (set .result) shape whole barred marked placed (start .args .rows .now);
+      touched = c .count-places .ensures ∙ touched-counted bs ps count fields (pairs .result) (old .result) (set .result) shape whole barred marked placed;
     }
 
 pub carry-map-spec : {M : Type 1} → statement M
@@ -95,12 +125,10 @@ carry-map-spec =
     tie.close
     (tie.spec
     read-tasks-requires
-    slice-aggregate-read-barred
+    ids-of-requires
     read-barred-requires
-    slice-aggregate-touched-tasks
-    slice-aggregate-touched-tasks-2
+    transactions-of-requires
     touched-tasks-requires
-    slice-aggregate-old-places
     old-places-requires
     slice-aggregate-carried-rows
     carried-rows-requires

@@ -8,34 +8,43 @@ use native.Mathlib.Omega.{arith}
 use borrow.Author.Tests.{lt-ltb, le-ltb}
 use borrow.Author.Needs.{needs}
 use lib.Dec.{ltb}
-use Rattle.rules.specs.declared.Task.{Task}
-use Rattle.rules.specs.Preempt.{mayPreempt, bitAt}
 use Rattle.rules.proofs.Numbers.{sumTo-zero}
 use Rattle.rules.proofs.Bits.{bitsTo, bits-more, bits-same, bits-room, bits-end}
-use Rattle.preempt.specs.Tasks.{upperAt}
+use Rattle.preempt.specs.Tasks.{decidedOn}
 use Rattle.preempt.proofs.map.row.Statement.{statement}
 use Rattle.preempt.proofs.map.row.Tie as tie
 
--- whether cell j is set in the row of a task with this period and these bars
-abbrev is-cell : List ℕ → List ℕ → List ℕ → List ℕ → ℕ → ℕ → ℕ → Task → ℕ → Bool
-is-cell transactions priorities offsets jitters count period bars low j =
-    ltb j count && mayPreempt period (bitAt bars j) low (upperAt transactions priorities offsets jitters j)
+-- whether cell j is set in row i
+abbrev is-cell : List ℕ → ℕ → ℕ → ℕ → ℕ → Bool
+is-cell fields count bars i j = ltb j count && decidedOn fields bars i j
 
 abbrev Inv-loop : tie.InvT-loop
-Inv-loop transactions priorities offsets jitters count period bars low row₀ j₀ row j =
-    (j ≤ count) × (row ≡ bitsTo (is-cell transactions priorities offsets jitters count period bars low) j)
+Inv-loop fields count bars i period low row₀ j₀ row j =
+    (j ≤ count) × (row ≡ bitsTo (is-cell fields count bars i) j)
 
 abbrev μ-loop : tie.MeasureT-loop
-μ-loop transactions priorities offsets jitters count period bars low row₀ j₀ row j = count - j
+μ-loop fields count bars i period low row₀ j₀ row j = count - j
+
+add-period : tie.Need-add-period Inv-loop μ-loop
+add-period c = search needs
+
+mul-period : tie.Need-mul-period Inv-loop μ-loop
+mul-period c = search needs
+
+element-copy-out-period : tie.Need-element-copy-out-period Inv-loop μ-loop
+element-copy-out-period c = search needs
+
+task-in-requires : tie.Need-task-in-requires Inv-loop μ-loop
+task-in-requires c κs = search needs
 
 loop-holds : tie.Need-loop-holds Inv-loop μ-loop
 loop-holds c = (omega arith, sym (sumTo-zero _))
 
-upper-at-requires : tie.Need-upper-at-requires Inv-loop μ-loop
-upper-at-requires c κs = search needs
-
 is-set-requires : tie.Need-is-set-requires Inv-loop μ-loop
 is-set-requires c κs = search needs
+
+task-in-requires-2 : tie.Need-task-in-requires-2 Inv-loop μ-loop
+task-in-requires-2 c κs = search needs
 
 may-preempt-requires : tie.Need-may-preempt-requires Inv-loop μ-loop
 may-preempt-requires c κs = search needs
@@ -45,9 +54,9 @@ power-requires c κs = search needs
 
 add-row : tie.Need-add-row Inv-loop μ-loop
 add-row c =
-    let a = c .before .before .before .before .before .before .before .args in
+    let a = c .before .before .before .before .before .before .before .before .before .args in
     let s = c .before .before .before .before .before .before .loop in
-    omega (arith, c .power .ensures, s .inv .1, bits-room (is-cell (a .transactions .now) (a .priorities .now) (a .offsets .now) (a .jitters .now) (a .count) (a .period) (a .bars) (a .low)) (s .j) (omega arith))
+    omega (arith, c .power .ensures, s .inv .1, bits-room (is-cell (a .fields .now) (a .count) (a .bars) (a .i)) (s .j) (omega arith))
 
 add-j : tie.Need-add-j Inv-loop μ-loop
 add-j c = search needs
@@ -56,12 +65,13 @@ loop-less : tie.Need-loop-less Inv-loop μ-loop
 loop-less c = search needs
 
 loop-again : tie.Need-loop-again Inv-loop μ-loop
+unfolding decidedOn
 loop-again c =
-    let a = c .before .before .before .before .before .before .args in
+    let a = c .before .before .before .before .before .before .before .before .args in
     let s = c .before .before .before .before .before .loop in
-    let test = is-cell (a .transactions .now) (a .priorities .now) (a .offsets .now) (a .jitters .now) (a .count) (a .period) (a .bars) (a .low) in
+    let test = is-cell (a .fields .now) (a .count) (a .bars) (a .i) in
     let below = lt-ltb (s .j) (a .count) (c .before .before .before .before .loop-test .taken) in
-    let decided : test (s .j) ≡ c .before .may-preempt .result = rw (below, ← c .before .before .before .upper-at .ensures, ← c .before .before .is-set .ensures) (sym (c .before .may-preempt .ensures)) in
+    let decided : test (s .j) ≡ c .before .may-preempt .result = rw (below, ← c .before .before .before .before .before .before .task-in .ensures, ← c .before .before .task-in2 .ensures, ← c .before .before .before .is-set .ensures) (sym (c .before .may-preempt .ensures)) in
     ⊎-elim
     (λ w.
     let set : test (s .j) ≡ true = decided ∙ w .0 .taken in
@@ -73,8 +83,8 @@ loop-again c =
 
 returns : tie.Need-returns Inv-loop μ-loop
 returns c =
-    let a = c .before .before .args in
-    let test = is-cell (a .transactions .now) (a .priorities .now) (a .offsets .now) (a .jitters .now) (a .count) (a .period) (a .bars) (a .low) in
+    let a = c .before .before .before .before .args in
+    let test = is-cell (a .fields .now) (a .count) (a .bars) (a .i) in
     let end : c .before .loop .j ≡ a .count = omega arith in
     c .before .loop .inv .1
     ∙ ap (bitsTo test) end
@@ -86,9 +96,13 @@ row-spec =
     (tie.spec
     Inv-loop
     μ-loop
+    add-period
+    mul-period
+    element-copy-out-period
+    task-in-requires
     loop-holds
-    upper-at-requires
     is-set-requires
+    task-in-requires-2
     may-preempt-requires
     power-requires
     add-row

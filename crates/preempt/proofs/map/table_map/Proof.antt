@@ -3,9 +3,6 @@ use mathlib.Core.Path.{_∙_}
 use native.Mathlib.Omega.{arith}
 use borrow.Author.Needs.{needs}
 use Rattle.rules.specs.Blocks.{records}
-use Rattle.rules.proofs.Maps.{map-ext}
-use Rattle.preempt.specs.Tasks.{decidedOn, decidedBy}
-use Rattle.preempt.proofs.Maps.{lowerIn, upperIn, decided-sides}
 use Rattle.preempt.proofs.Reading.{ids-directory, map-read}
 use Rattle.preempt.proofs.Accepted.{shape}
 use Rattle.preempt.proofs.map.table_map.Statement.{statement}
@@ -14,34 +11,37 @@ use Rattle.preempt.proofs.map.table_map.Tie as tie
 read-tasks-requires : tie.Need-read-tasks-requires
 read-tasks-requires c κs = search needs
 
+ids-of-requires : tie.Need-ids-of-requires
+ids-of-requires c κs = search needs
+
 read-barred-requires : tie.Need-read-barred-requires
 read-barred-requires c κs =
-    let start = c .before .before .before .before .before in
-    let tasks = c .before .before .before .read-tasks in
-    (start .pre, ids-directory (records (start .args .image .now)) (tasks .result) (shape (start .args .image .now) (c .before .before .before .before .shared-slice-known .given) (start .pre)) (tasks .ensures))
+    let read = c .before .before .before in
+    let start = read .before .before in
+    let ids = ids-directory (records (start .args .image .now)) (read .read-tasks .result .count) (read .read-tasks .result .fields) (shape (start .args .image .now) (read .before .shared-slice-known .given) (start .pre)) (read .read-tasks .ensures) in
+    (start .pre, rw (c .ids-of .ensures) ids)
 
 map-of-requires : tie.Need-map-of-requires
 map-of-requires c κs =
-    let read = c .before .before .before .before .before .before .before .before .before .before .before .before .before in
+    let read = c .before .before .before .before .before .before .before in
     let start = read .before .before in
     omega (arith, read .read-tasks .ensures .count, shape (start .args .image .now) (read .before .shared-slice-known .given) (start .pre) .few-tasks)
 
 returns : tie.Need-returns
 returns c =
-    let barred = c .before .before .before .before .before .before .before .before .before .before .read-barred in
-    let read = c .before .before .before .before .before .before .before .before .before .before .before .before .before .before in
+    let read = c .before .before .before .before .before .before .before .before in
     let start = read .before .before in
     let tasks = read .read-tasks in
-    let sides = decidedOn (tasks .result .periods) (barred .result) (lowerIn (tasks .result)) (upperIn (tasks .result)) in
+    let barred = c .before .before .before .before .read-barred in
     c .map-of .ensures
-    ∙ map-ext (tasks .result .count) sides (decidedBy (tasks .result) (barred .result)) (λ i j h l. decided-sides (tasks .result) (barred .result) i j)
-    ∙ map-read (records (start .args .image .now)) (tasks .result) (barred .result) (shape (start .args .image .now) (read .before .shared-slice-known .given) (start .pre)) (tasks .ensures) (barred .ensures)
+    ∙ map-read (records (start .args .image .now)) (tasks .result .count) (tasks .result .fields) (barred .result) (shape (start .args .image .now) (read .before .shared-slice-known .given) (start .pre)) (tasks .ensures) (barred .ensures)
 
 pub table-map-spec : {M : Type 1} → statement M
 table-map-spec =
     tie.close
     (tie.spec
     read-tasks-requires
+    ids-of-requires
     read-barred-requires
     map-of-requires
     returns)

@@ -4,11 +4,12 @@ use mathlib.Core.List.{map}
 use mathlib.Core.Bool.{true, false}
 use mathlib.Core.Path.{_≡_, sym, ap, subst, _∙_}
 use borrow.Author.Tests.{eq-eqb, ne-eqb, lt-ltb, le-ltb}
-use lib.ListN.{length, take}
+use lib.ListN.{length, getD, take}
 use Rattle.rules.specs.declared.Verdict.{Verdict}
 use Rattle.rules.specs.declared.Bounds.{Bounds}
 use Rattle.rules.specs.Blocks.{records}
 use Rattle.rules.specs.Refusals.{accepted, tableVerdict}
+use Rattle.rules.specs.Chains.{idAt}
 use Rattle.rules.specs.Calls.{over, BoundCall, boundRefusal}
 use Rattle.preempt.proofs.Accepted.{shape}
 use Rattle.stack.proofs.Figures.{ids-same}
@@ -18,6 +19,11 @@ use native.Mathlib.Omega.{arith}
 use borrow.Author.Needs.{needs}
 use Rattle.stack.proofs.call.find_bounds.Statement.{statement}
 use Rattle.stack.proofs.call.find_bounds.Tie as tie
+
+-- past the first test the table is accepted
+sound : (c : tie.Else1) → accepted (tableVerdict (c .before .before .before .before .before .before .args .image .now)) ≡ true
+sound c =
+    subst (λ (v : Verdict). accepted v ≡ true) (c .before .before .table-verdict .ensures) (eq-eqb (c .before .before .table-verdict .result .number) 0 (c .if1 .left))
 
 table-verdict-requires : tie.Need-table-verdict-requires
 table-verdict-requires c κs = search needs
@@ -32,11 +38,6 @@ returns c =
     let ids = c .before .before .before .before .before .before .before .args .ids .now in
     let wrong : accepted (tableVerdict image) ≡ false = subst (λ (v : Verdict). accepted v ≡ false) (c .before .before .before .table-verdict .ensures) (ne-eqb (c .before .before .before .table-verdict .result .number) 0 (c .before .if1 .taken)) in
     subst (λ (answer : Bounds). BoundCall image lent ids answer ids) (sym (c .refused .ensures ∙ ap boundRefusal (c .before .before .before .table-verdict .ensures))) (by-table image lent ids wrong)
-
--- past the first test the table is accepted
-sound : (c : tie.Else1) → accepted (tableVerdict (c .before .before .before .before .before .before .args .image .now)) ≡ true
-sound c =
-    subst (λ (v : Verdict). accepted v ≡ true) (c .before .before .table-verdict .ensures) (eq-eqb (c .before .before .table-verdict .result .number) 0 (c .if1 .left))
 
 refused-requires-2 : tie.Need-refused-requires-2
 refused-requires-2 c κs = search needs
@@ -64,50 +65,63 @@ read-tasks-requires : tie.Need-read-tasks-requires
 read-tasks-requires c κs = sound (c .before .before)
 
 find-requires : tie.Need-find-requires
-find-requires c κs = (sound (c .before .before .before), (c .read-tasks .ensures, c .before .before .if2 .left))
+find-requires c κs = (sound (c .before .before .before .before .before), (c .before .before .read-tasks .ensures, c .before .before .before .before .if2 .left))
 
-slice-aggregate-write-ids : tie.Need-slice-aggregate-write-ids
-slice-aggregate-write-ids c = search needs
+ids-of-requires : tie.Need-ids-of-requires
+ids-of-requires c κs = search needs
 
 write-ids-requires : tie.Need-write-ids-requires
 write-ids-requires c κs =
-    let image = c .before .before .before .before .before .before .before .before .before .before .before .before .before .before .args .image .now in
-    let lent = c .before .before .before .before .before .before .before .before .before .before .before .before .before .before .args .map .now in
-    let ids = c .before .before .before .before .before .before .before .before .before .before .before .before .before .before .args .ids .now in
-    let right = sound (c .before .before .before .before .before .before .before .before) in
-    let known = c .before .before .before .before .before .before .before .before .before .before .before .before .before .shared-slice-known .given in
-    let t = c .before .before .before .before .before .read-tasks .result in
-    let read = c .before .before .before .before .before .read-tasks .ensures in
-    let found = c .before .before .before .before .find .ensures in
-    let long : length (c .before .before .before .before .find .result .places) ≡ 64 = search needs in
-    ((long, found .room, ids-long image known right t read, c .before .before .before .before .before .before .if3 .left), (λ k h. places-below image lent ids right (c .before .before .before .before .before .before .before .if2 .left) (c .before .before .before .before .before .before .if3 .left) (c .before .before .before .before .find .result) found (shape image known right .few-tasks) k long h, ids-small image known right t read))
-
-cast-t17 : tie.Need-cast-t17
-cast-t17 c =
-    let image = c .before .before .before .before .before .before .before .before .before .before .before .before .before .before .before .before .before .before .args .image .now in
-    let right = sound (c .before .before .before .before .before .before .before .before .before .before .before .before) in
-    omega (arith, few-read image (c .before .before .before .before .before .before .before .before .before .before .before .before .before .before .before .before .before .shared-slice-known .given) right (c .before .before .before .before .before .before .before .before .before .read-tasks .result) (c .before .before .before .before .before .before .before .before .before .read-tasks .ensures))
+    let read = c .before .before .before .before .before .before .before .before in
+    let start = read .before .before .before .before .before .before .before .before .before in
+    let image = start .args .image .now in
+    let lent = start .args .map .now in
+    let ids = start .args .ids .now in
+    let known = read .before .before .before .before .before .before .before .before .shared-slice-known .given in
+    let right = sound (read .before .before .before) in
+    let tasks = read .read-tasks .result in
+    let found = c .before .before .before .before .before .find in
+    let long : length (found .result .places) ≡ 64 = search needs in
+    let named = c .before .ids-of .ensures in
+    let room = read .before .if3 .left in (
+      (long, found .ensures .room, rw named (ids-long image known right (tasks .count) (tasks .fields) (read .read-tasks .ensures)), room),
+      (λ k h. places-below image lent ids right (read .before .before .if2 .left) room (found .result) (found .ensures) (shape image known right .few-tasks) k long h, rw named (ids-small image known right (tasks .count) (tasks .fields) (read .read-tasks .ensures))),
+    )
 
 cast-t18 : tie.Need-cast-t18
-cast-t18 c = search needs
+cast-t18 c =
+    let read = c .before .before .before .before .before .before .before .before .before .before .before in
+    let start = read .before .before .before .before .before .before .before .before .before in
+    let image = start .args .image .now in
+    let lent = start .args .map .now in
+    let ids = start .args .ids .now in
+    let known = read .before .before .before .before .before .before .before .before .shared-slice-known .given in
+    let right = sound (read .before .before .before) in
+    let tasks = read .read-tasks .result in
+    omega (arith, few-read image known right (tasks .count) (tasks .fields) (read .read-tasks .ensures))
+
+cast-t19 : tie.Need-cast-t19
+cast-t19 c = search needs
 
 same-length : tie.Need-same-length
 same-length c = search needs
 
 returns-4 : tie.Need-returns-4
 returns-4 c =
-    let image = c .before .before .before .before .before .before .before .before .before .before .before .before .before .before .before .before .before .before .args .image .now in
-    let lent = c .before .before .before .before .before .before .before .before .before .before .before .before .before .before .before .before .before .before .args .map .now in
-    let ids = c .before .before .before .before .before .before .before .before .before .before .before .before .before .before .before .before .before .before .args .ids .now in
-    let right = sound (c .before .before .before .before .before .before .before .before .before .before .before .before) in
-    let known = c .before .before .before .before .before .before .before .before .before .before .before .before .before .before .before .before .before .shared-slice-known .given in
-    let t = c .before .before .before .before .before .before .before .before .before .read-tasks .result in
-    let read = c .before .before .before .before .before .before .before .before .before .read-tasks .ensures in
-    let found = c .before .before .before .before .before .before .before .before .find .result in
+    let read = c .before .before .before .before .before .before .before .before .before .before .before in
+    let start = read .before .before .before .before .before .before .before .before .before in
+    let image = start .args .image .now in
+    let lent = start .args .map .now in
+    let ids = start .args .ids .now in
+    let known = read .before .before .before .before .before .before .before .before .shared-slice-known .given in
+    let right = sound (read .before .before .before) in
+    let tasks = read .read-tasks .result in
+    let found = c .before .before .before .before .before .before .before .before .find in
     let whole = shape image known right in
-    let long : length (found .places) ≡ 64 = search needs in
-    let named = ap (λ (f : ℕ → ℕ). over (map f (take (found .length) (found .places))) ids) (ids-same (records image) lent t whole read) in
-    answered image lent ids right (c .before .before .before .before .before .before .before .before .before .before .before .if2 .left) (c .before .before .before .before .before .before .before .before .before .before .if3 .left) found (c .before .before .before .before .before .before .before .before .find .ensures) _ (t .count) (read .count) long (c .before .before .before .write-ids .ensures ∙ named)
+    let long : length (found .result .places) ≡ 64 = search needs in
+    let named : (λ (i : ℕ). getD (c .before .before .before .before .ids-of .result .now) i 0) ≡ idAt (records image) = rw (c .before .before .before .before .ids-of .ensures) (ids-same (records image) lent (tasks .count) (tasks .fields) whole (read .read-tasks .ensures)) in
+    let written = ap (λ (f : ℕ → ℕ). over (map f (take (found .result .length) (found .result .places))) ids) named in
+    answered image lent ids right (read .before .before .if2 .left) (read .before .if3 .left) (found .result) (found .ensures) _ (tasks .count) (read .read-tasks .ensures .count) long (c .before .before .write-ids .ensures ∙ written)
 
 pub find-bounds-spec : {M : Type 1} → statement M
 find-bounds-spec =
@@ -122,9 +136,9 @@ find-bounds-spec =
     returns-3
     read-tasks-requires
     find-requires
-    slice-aggregate-write-ids
+    ids-of-requires
     write-ids-requires
-    cast-t17
     cast-t18
+    cast-t19
     same-length
     returns-4)
