@@ -38,7 +38,7 @@ tasks-determined rs n m l k p q =
     let a = p .columns in
     let b = q .columns in
     let none : drop 576 l ≡ drop 576 k =
-            drop-of-length-le l {i = 576} (omega (arith, a .whole)) ∙ sym (drop-of-length-le k {i = 576} (omega (arith, b .whole))) in
+    drop-of-length-le l {i = 576} (omega (arith, a .whole)) ∙ sym (drop-of-length-le k {i = 576} (omega (arith, b .whole))) in
     let from-512 = same-from 512 l k (a .periods ∙ sym (b .periods)) none in
     let from-448 = same-from 448 l k (a .thresholds ∙ sym (b .thresholds)) from-512 in
     let from-384 = same-from 384 l k (a .sizes ∙ sym (b .sizes)) from-448 in

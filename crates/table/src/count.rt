@@ -45,14 +45,22 @@ pub fn tally(image: &[u8]) -> [u32; 8]
     counts
 }
 
-// The number of the first record that is of at least this kind, or the number of records, by halving: kinds do not fall.
+// The number of the first record that is of at least this kind, or the number of records: the first of all for kind 1, the
+// number of records above kind 3, and between them by halving, as kinds do not fall.
 fn kind_start(image: &[u8], kind: u32) -> usize
     requires { ⌜ accepted (recordsVerdict Table (records (now image))) ≡ true ⌝ }
     requires { ⌜ HoldsRecords (now image) ⌝ }
     ensures { λ r. ⌜ KindStart (records (now (image .entry))) kind r ⌝ }
 {
+    if kind <= 1 {
+        return 0;
+    }
+    let count = record_count(image);
+    if 3 < kind {
+        return count;
+    }
     let mut low: usize = 0;
-    let mut high = record_count(image);
+    let mut high = count;
     while low < high {
         let middle = low + (high - low) / 2;
         if byte_at(record_at(image, middle), 0) < kind {
