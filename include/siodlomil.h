@@ -13,10 +13,10 @@
  * - A call takes stack, at most so many bytes of it, as tools/stack-use reads off the two archives:
  *
  *                           x86-64       Arm
- *     siodlomil_map            6,104     6,144
- *     siodlomil_bounds        49,544    46,400
+ *     siodlomil_map            5,816     5,824
+ *     siodlomil_bounds        50,840    47,696
  *     siodlomil_reason         1,136       944
- *     siodlomil_patch         42,328    42,416
+ *     siodlomil_patch         37,432    37,456
  *     siodlomil_reverse       21,792    21,776
  *     siodlomil_offending      1,184     1,024
  *
@@ -92,7 +92,7 @@ extern "C" {
 #endif
 
 /* The version of the library; CHANGELOG.md says what each changed. */
-#define SIODLOMIL_VERSION "0.7.0"
+#define SIODLOMIL_VERSION "0.8.0"
 
 /* A block of an image, and a record in it. */
 #define SIODLOMIL_BLOCK_BYTES 512
