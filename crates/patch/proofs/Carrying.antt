@@ -12,9 +12,9 @@ use Rattle.rules.specs.Patches.{outcome, touched, touchedCount, oldPlace, carri
 use Rattle.rules.proofs.Numbers.{sumTo-ext}
 use Rattle.rules.proofs.Maps.{map-ext}
 use Rattle.rules.proofs.Table.Shape.{Shape}
-use Rattle.preempt.specs.Bits.{column}
+use Rattle.sets.specs.Bits.{column}
 use Rattle.preempt.specs.Tasks.{TasksRead, idsIn, transactionsIn, barredMap}
-use Rattle.preempt.proofs.Columns.{column-at}
+use Rattle.sets.proofs.Columns.{column-at}
 use Rattle.preempt.proofs.Reading.{decided-read}
 use Rattle.patch.specs.Touched.{Marks, touchedAt}
 use Rattle.patch.specs.Carried.{cellNew, carriedBy}

@@ -17,7 +17,7 @@ use Rattle.rules.proofs.Bits.{bit-none, bit-of-power, bit-or}
 use Rattle.rules.proofs.Maps.{row-at}
 use Rattle.rules.proofs.Tests.{same-tests}
 use Rattle.table.specs.Numbers.{Rising, placeAmong}
-use Rattle.preempt.specs.Bits.{hasNumber}
+use Rattle.sets.specs.Bits.{hasNumber}
 use Rattle.patch.specs.Touched.{Marks}
 
 -- no place is in the empty set

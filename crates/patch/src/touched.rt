@@ -14,10 +14,10 @@ use image::bytes::byte_at;
 use image::bytes::two_bytes;
 use image::records::record_at;
 use image::records::record_count;
-use preempt::bits::is_set;
-use preempt::bits::members;
-use preempt::bits::power;
-use preempt::bits::union;
+use sets::bits::is_set;
+use sets::bits::members;
+use sets::bits::power;
+use sets::bits::union;
 use table::place::place_of;
 
 // The task with an id, or none.

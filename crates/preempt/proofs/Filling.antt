@@ -8,9 +8,9 @@ use lib.ListN.{length, getD, set, replicate, take, drop, length-set, length-repl
 use lib.Seq.{drop-set-add, drop-set-lt, take-set-lt, take-set-le}
 use Rattle.rules.specs.declared.Task.{Task}
 use Rattle.rules.specs.Records.{taskAt, periodAt}
-use Rattle.preempt.specs.Bits.{column}
+use Rattle.sets.specs.Bits.{column}
 use Rattle.preempt.specs.Tasks.{FieldsTo}
-use Rattle.preempt.proofs.Columns.{column-none, column-filled}
+use Rattle.sets.proofs.Columns.{column-none, column-filled}
 
 -- column m of the fields
 abbrev columnIn : ℕ → List ℕ → List ℕ

@@ -1,7 +1,4 @@
-pub mod Sets
-pub mod Choosing
-pub mod Columns
-pub mod Maps
+pub mod Marking
 pub mod Accepted
 pub mod Pairs
 pub mod Filling

@@ -14,9 +14,9 @@ use Rattle.rules.proofs.Numbers.{either, lowest-zero, some-more, some-false}
 use Rattle.rules.proofs.Table.Shape.{Shape}
 use Rattle.rules.proofs.Table.Listed.{Listed, number-at-place, place-below}
 use Rattle.rules.proofs.Maps.{map-ext}
-use Rattle.preempt.specs.Bits.{withPair}
+use Rattle.preempt.specs.Tasks.{withPair}
 use Rattle.preempt.specs.Tasks.{barredMap}
-use Rattle.preempt.proofs.Maps.{map-with-pair}
+use Rattle.preempt.proofs.Marking.{map-with-pair}
 
 -- one of the first k pairs forbids that the task at place i is preempted by the one at place j
 abbrev pub barredTo : List (List ℕ) → ℕ → ℕ → ℕ → Bool

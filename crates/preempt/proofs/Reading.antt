@@ -10,9 +10,9 @@ use Rattle.rules.specs.Preempt.{barred, decided, cell, mapFrom, mapOf}
 use Rattle.rules.proofs.Table.Shape.{Shape}
 use Rattle.rules.proofs.Maps.{cell-of-map, map-ext}
 use Rattle.table.specs.Numbers.{Directory}
-use Rattle.preempt.specs.Bits.{column}
+use Rattle.sets.specs.Bits.{column}
 use Rattle.preempt.specs.Tasks.{TasksRead, idsIn, barredMap, taskIn, decidedOn, decidedBy}
-use Rattle.preempt.proofs.Columns.{column-length, column-at}
+use Rattle.sets.proofs.Columns.{column-length, column-at}
 
 -- a field of the task at a place that holds one
 pub field-at : (rs : List (List ℕ)) (l : List ℕ) (f : ℕ → ℕ) → Shape rs → l ≡ column (taskCount rs) f → (i : ℕ) → i < taskCount rs → getD l i 0 ≡ f i

@@ -1,4 +1,2 @@
-pub mod Bits
-pub mod Places
 pub mod Tasks
 pub mod Paper

@@ -1,13 +1,14 @@
 -- What is read of a table's tasks and pairs, and the decision from it.
 use Prim.Native.Nat.{ℕ, _+_}
 use mathlib.Core.List.{List}
-use mathlib.Core.Bool.{Bool}
+use mathlib.Core.Bool.{Bool, cond}
 use mathlib.Core.Path.{_≡_}
+use lib.Dec.{eqb}
 use lib.ListN.{length, getD, take, drop}
 use Rattle.rules.specs.declared.Task.{Task}
 use Rattle.rules.specs.Records.{taskCount, taskAt, periodAt}
 use Rattle.rules.specs.Preempt.{mayPreempt, barred, bitAt, mapFrom}
-use Rattle.preempt.specs.Bits.{column}
+use Rattle.sets.specs.Bits.{column, marked}
 
 -- the columns, of 64 numbers each, in which the fields of the tasks stand by their places
 abbrev pub idsIn : List ℕ → List ℕ
@@ -54,6 +55,10 @@ pub record FieldsTo (rs : List (List ℕ)) (n : ℕ) (fields : List ℕ) : Type 
 pub record TasksRead (rs : List (List ℕ)) (n : ℕ) (fields : List ℕ) : Type 0 where
   pub count : n ≡ taskCount rs
   pub columns : FieldsTo rs (taskCount rs) fields
+
+-- rows with what a pair of this sort and these places forbids: one way, or for a precedence both
+abbrev pub withPair : List ℕ → ℕ → ℕ → ℕ → List ℕ
+withPair rows sort i j = cond (eqb sort 1) (marked (marked rows i j) j i) (marked rows i j)
 
 -- cell j of row i is set where a pair forbids that the task at place i is preempted by the one at place j
 unfoldable pub barredMap : List (List ℕ) → List ℕ

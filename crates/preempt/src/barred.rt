@@ -7,22 +7,13 @@ ghost use Rattle.rules.specs.Blocks.{records};
 ghost use Rattle.rules.specs.Records.{numberOf, secondOf, sortOf, tasks};
 ghost use Rattle.rules.specs.Refusals.{accepted, tableVerdict};
 ghost use Rattle.table.specs.Numbers.{Rising, placeAmong, Directory};
-ghost use Rattle.preempt.specs.Bits.{marked, withPair};
-ghost use Rattle.preempt.specs.Tasks.{barredMap};
-use crate::bits::with_bit;
+ghost use Rattle.preempt.specs.Tasks.{withPair, barredMap};
 use image::bytes::byte_at;
 use image::bytes::two_bytes;
 use image::records::record_at;
+use sets::rows::mark;
 use table::count::count_kind;
 use table::place::place_of;
-
-// Sets cell j of row i besides.
-fn mark(rows: &mut [u64], i: usize, j: usize)
-    requires { ⌜ (i < length (now rows)) × (j < 64) ⌝ }
-    ensures { λ _. ⌜ now (rows .exit) ≡ marked (now (rows .entry)) i j ⌝ }
-{
-    rows[i] = with_bit(rows[i], j);
-}
 
 // Sets what a pair record forbids besides: one way, or for a precedence both.
 fn forbid(rows: &mut [u64], ids: &[u32], known: usize, fields: &[u8])

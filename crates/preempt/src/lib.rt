@@ -1,7 +1,5 @@
 // Who may preempt whom: the distance, the decision for a pair of tasks, and the map of a table.
 pub mod barred;
-pub mod bits;
 pub mod decide;
 pub mod map;
-pub mod places;
 pub mod tasks;

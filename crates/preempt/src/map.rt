@@ -9,13 +9,13 @@ ghost use Rattle.rules.specs.Refusals.{accepted, tableVerdict};
 ghost use Rattle.rules.specs.Calls.{over, mapVerdict, mapAfter};
 ghost use Rattle.preempt.specs.Tasks.{decidedOn, decidedBy};
 use crate::barred::read_barred;
-use crate::bits::is_set;
-use crate::bits::power;
 use crate::decide::may_preempt;
 use crate::tasks::ids_of;
 use crate::tasks::read_tasks;
 use crate::tasks::task_in;
 use rules::Verdict;
+use sets::bits::is_set;
+use sets::bits::power;
 use table::table_verdict;
 
 // Row i of the map: a bit for each task that may preempt the one at place i. The tasks are read where they lie, so that no

@@ -9,8 +9,8 @@ use lib.Dec.{ltb}
 use Rattle.rules.specs.declared.Task.{Task}
 use Rattle.rules.specs.Records.{secondOf, tasks, taskCount, taskOf, taskAt, periodIn}
 use Rattle.rules.proofs.Numbers.{either}
-use Rattle.preempt.specs.Bits.{column}
-use Rattle.preempt.proofs.Columns.{column-length, column-at, column-beyond}
+use Rattle.sets.specs.Bits.{column}
+use Rattle.sets.proofs.Columns.{column-length, column-at, column-beyond}
 
 -- a column of a function that is 0 beyond n is the function
 column-total : (n : ℕ) (f : ℕ → ℕ) → n ≤ 64 → ((i : ℕ) → n ≤ i → f i ≡ 0) → (i : ℕ) → getD (column n f) i 0 ≡ f i

@@ -19,7 +19,7 @@ use Rattle.stack.specs.Figures.{ownTask, OwnPaths, figuresIn, FoundOver,
 use Rattle.stack.proofs.Columns.{field-total}
 use Rattle.rules.specs.Chains.{weight, Chain, Path, All, Before, Largest, Heaviest, related, sizeAt, idAt, priorityAt, inTransaction, TransactionBound, levelBound}
 use Rattle.rules.specs.Chains.Before.{less, later, shorter}
-use Rattle.preempt.specs.Places.{Below}
+use Rattle.sets.specs.Places.{Below}
 
 -- every place of the list is below n
 abbrev pub Within : ℕ → List ℕ → Type 0

@@ -16,8 +16,8 @@ use Rattle.rules.proofs.Tests.{both-first}
 use Rattle.rules.proofs.Maps.{row-at}
 use Rattle.rules.proofs.Table.Order.{Rises, one-with}
 use Rattle.rules.proofs.FourBounds.Total.{total-within, own-paths≤total}
-use Rattle.preempt.specs.Bits.{hasNumber}
-use Rattle.preempt.specs.Places.{Inside}
+use Rattle.sets.specs.Bits.{hasNumber}
+use Rattle.sets.specs.Places.{Inside}
 use Rattle.stack.specs.Setting.{Ready}
 use Rattle.stack.specs.Paths.{sizeIn, PathBound}
 use Rattle.stack.specs.Figures.{ownTask, OwnPaths}

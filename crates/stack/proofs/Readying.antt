@@ -19,7 +19,7 @@ use Rattle.rules.proofs.Table.Ranges.{TaskRanges, task-ranges, le2-small}
 use Rattle.rules.proofs.Table.Shape.{Shape, ofKind-bytes}
 use Rattle.preempt.specs.Tasks.{TasksRead, idsIn, transactionsIn, prioritiesIn, sizesIn, thresholdsIn}
 use Rattle.preempt.proofs.Accepted.{shape}
-use Rattle.preempt.proofs.Columns.{column-length}
+use Rattle.sets.proofs.Columns.{column-length}
 use Rattle.stack.specs.Order.{Falling}
 use Rattle.stack.specs.Setting.{Ready, RowsRise}
 use Rattle.stack.specs.Related.{RelatedRows}

@@ -10,7 +10,7 @@ use lib.ListN.{length, getD, set as set-at, length-set}
 use lib.Seq.{getD-set-same, getD-set-other}
 use Rattle.rules.specs.Preempt.{cell, rowFrom}
 use Rattle.rules.proofs.Numbers.{either}
-use Rattle.preempt.specs.Places.{Shared}
+use Rattle.sets.specs.Places.{Shared}
 use Rattle.stack.specs.Related.{isHigher, relatedIn, RelatedRows}
 use Rattle.rules.proofs.Bits.{bit-none}
 use Rattle.rules.proofs.Maps.{row-at}

@@ -13,11 +13,11 @@ use Rattle.rules.specs.Preempt.{cell, bitAt}
 use Rattle.rules.specs.Chains.{weight, Path, All}
 use Rattle.rules.proofs.Numbers.{either, never}
 use Rattle.rules.proofs.Tests.{both-first, both-second, T-true, true-T}
-use Rattle.preempt.specs.Places.{Without, Shared, Inside}
+use Rattle.sets.specs.Places.{Without, Shared, Inside}
 use Rattle.stack.specs.Setting.{Ready}
 use Rattle.stack.specs.Paths.{sizeIn, LargestAt, PathFrom, PathSums, PathBound}
 use Rattle.rules.proofs.Bits.{bit-none}
-use Rattle.preempt.proofs.Sets.{without-inside, without-outside, lowest-has}
+use Rattle.sets.proofs.Sets.{without-inside, without-outside, lowest-has}
 
 -- sums that are all 0
 pub zeros : (k j : ℕ) → _≡_ {A = ℕ} (getD (replicate k 0) j 0) 0

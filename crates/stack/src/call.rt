@@ -17,7 +17,6 @@ use crate::own::transaction_bound;
 use crate::path::path_bound;
 use crate::related::related_rows;
 use crate::search::heaviest_chain;
-use preempt::places::wide;
 use preempt::tasks::ids_of;
 use preempt::tasks::priorities_of;
 use preempt::tasks::read_tasks;
@@ -26,6 +25,7 @@ use preempt::tasks::thresholds_of;
 use preempt::tasks::transactions_of;
 use rules::Bounds;
 use rules::Verdict;
+use sets::places::wide;
 use table::table_verdict;
 
 // The chain by its places, its length and weight, and the other bounds.

@@ -1,15 +1,15 @@
 // The largest sum of sizes over paths: lists of places where only neighbours must satisfy the relation.
 ghost use Rattle.rules.specs.Preempt.{cell};
 ghost use Rattle.rules.specs.Chains.{weight, Path, Largest};
-ghost use Rattle.preempt.specs.Places.{Inside};
+ghost use Rattle.sets.specs.Places.{Inside};
 ghost use Rattle.stack.specs.Setting.{Ready};
 ghost use Rattle.stack.specs.Paths.{sizeIn, LargestAt, PathSums};
-use preempt::bits::is_set;
-use preempt::places::all_below;
-use preempt::places::lowest;
-use preempt::places::shared;
-use preempt::places::wide;
-use preempt::places::without;
+use sets::bits::is_set;
+use sets::places::all_below;
+use sets::places::lowest;
+use sets::places::shared;
+use sets::places::wide;
+use sets::places::without;
 
 // The largest of the sums at the places of a set, or 0.
 pub fn largest_at(sums: &[u32; 64], set: u64) -> u32

@@ -4,8 +4,8 @@ ghost use Prim.Native.Nat.{_≤_};
 ghost use lib.ListN.{length};
 ghost use Rattle.rules.specs.Preempt.{rowFrom};
 ghost use Rattle.stack.specs.Related.{isHigher, RelatedRows};
-use preempt::bits::with_bit_if;
-use preempt::places::shared;
+use sets::bits::with_bit_if;
+use sets::places::shared;
 
 // The places below count whose priority is above this threshold.
 fn higher(priorities: &[u32], count: usize, threshold: u32) -> u64

@@ -5,8 +5,8 @@ use mathlib.Core.List.{List}
 use native.Mathlib.Omega.{arith}
 use borrow.Author.Needs.{needs}
 use Rattle.rules.specs.Preempt.{rowFrom, mapFrom}
-use Rattle.preempt.specs.Bits.{column}
-use Rattle.preempt.proofs.Columns.{column-none, column-filled}
+use Rattle.sets.specs.Bits.{column}
+use Rattle.sets.proofs.Columns.{column-none, column-filled}
 use Rattle.patch.specs.Carried.{carriedBy}
 use Rattle.patch.proofs.carried.carried_rows.Statement.{statement}
 use Rattle.patch.proofs.carried.carried_rows.Tie as tie

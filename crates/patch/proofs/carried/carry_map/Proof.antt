@@ -14,8 +14,8 @@ use Rattle.rules.proofs.Table.Shape.{Shape}
 use Rattle.rules.proofs.Table.Listed.{table-of}
 use Rattle.table.specs.Numbers.{Directory}
 use Rattle.preempt.specs.Tasks.{TasksRead, idsIn, transactionsIn, barredMap}
-use Rattle.preempt.specs.Bits.{column}
-use Rattle.preempt.proofs.Columns.{column-length}
+use Rattle.sets.specs.Bits.{column}
+use Rattle.sets.proofs.Columns.{column-length}
 use Rattle.preempt.proofs.Reading.{ids-directory}
 use Rattle.patch.specs.Touched.{Marks, touchedAt}
 use Rattle.patch.proofs.Carrying.{carried-read, touched-counted}

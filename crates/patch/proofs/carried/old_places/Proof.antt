@@ -18,8 +18,8 @@ use Rattle.rules.proofs.Numbers.{lowest-le}
 use Rattle.rules.proofs.Patch.Valid.{valid-of, valid-few-tasks}
 use Rattle.table.specs.Numbers.{Directory, NumbersRead}
 use Rattle.table.proofs.Places.{tasks-directory, place-in}
-use Rattle.preempt.specs.Bits.{column}
-use Rattle.preempt.proofs.Columns.{column-none, column-filled}
+use Rattle.sets.specs.Bits.{column}
+use Rattle.sets.proofs.Columns.{column-none, column-filled}
 use Rattle.patch.proofs.Accepted.{as-many}
 use Rattle.patch.proofs.carried.old_places.Statement.{statement}
 use Rattle.patch.proofs.carried.old_places.Tie as tie

@@ -8,7 +8,7 @@ use borrow.Author.Needs.{needs}
 use lib.ListN.{length, length-set}
 use Rattle.rules.specs.Records.{numberOf, secondOf}
 use Rattle.table.specs.Numbers.{placeAmong}
-use Rattle.preempt.specs.Bits.{marked}
+use Rattle.sets.specs.Bits.{marked}
 use Rattle.preempt.proofs.barred.forbid.Statement.{statement}
 use Rattle.preempt.proofs.barred.forbid.Tie as tie
 

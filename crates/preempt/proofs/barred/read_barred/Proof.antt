@@ -13,11 +13,11 @@ use Rattle.rules.proofs.Table.Shape.{Shape}
 use Rattle.rules.proofs.Table.Listed.{Listed}
 use Rattle.table.specs.Numbers.{Directory, placeAmong}
 use Rattle.table.proofs.Places.{place-in}
-use Rattle.preempt.specs.Bits.{withPair}
+use Rattle.preempt.specs.Tasks.{withPair}
 use Rattle.preempt.proofs.Pairs.{first-below, second-below, barredTo, none-barred, all-barred, pair-marked}
 use Rattle.preempt.proofs.Accepted.{shape, record-whole, names-listed, pair-record}
 use Rattle.rules.proofs.Maps.{map-length}
-use Rattle.preempt.proofs.Maps.{map-none}
+use Rattle.sets.proofs.Maps.{map-none}
 use Rattle.preempt.proofs.barred.read_barred.Statement.{statement}
 use Rattle.preempt.proofs.barred.read_barred.Tie as tie
 

@@ -6,8 +6,8 @@ use native.Mathlib.Omega.{arith}
 use borrow.Author.Needs.{needs}
 use Rattle.rules.specs.Preempt.{rowFrom, mapFrom}
 use Rattle.preempt.specs.Tasks.{decidedBy}
-use Rattle.preempt.specs.Bits.{column}
-use Rattle.preempt.proofs.Columns.{column-none, column-filled}
+use Rattle.sets.specs.Bits.{column}
+use Rattle.sets.proofs.Columns.{column-none, column-filled}
 use Rattle.preempt.proofs.map.map_of.Statement.{statement}
 use Rattle.preempt.proofs.map.map_of.Tie as tie
 

@@ -10,7 +10,7 @@ use Rattle.rules.specs.Records.{tasks, taskCount, taskOf, periodAt}
 use Rattle.rules.specs.Blocks.{records}
 use Rattle.preempt.specs.Tasks.{FieldsTo}
 use Rattle.preempt.proofs.Accepted.{shape}
-use Rattle.preempt.proofs.Columns.{column-at}
+use Rattle.sets.proofs.Columns.{column-at}
 use Rattle.preempt.proofs.Filling.{fields-none, fields-more}
 use Rattle.preempt.proofs.tasks.read_tasks.Statement.{statement}
 use Rattle.preempt.proofs.tasks.read_tasks.Tie as tie

@@ -1,7 +1,7 @@
 -- The loop's invariant: of the places passed the set holds those whose priority is above the threshold.
 use Prim.Native.Nat.{_-_}
 use Rattle.stack.specs.Related.{isHigher}
-use Rattle.preempt.proofs.Choosing.{Chosen, chosen-none, chosen-more, chosen-all}
+use Rattle.sets.proofs.Choosing.{Chosen, chosen-none, chosen-more, chosen-all}
 use native.Mathlib.Omega.{arith}
 use borrow.Author.Needs.{needs}
 use Rattle.stack.proofs.related.higher.Statement.{statement}

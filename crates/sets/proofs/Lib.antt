@@ -1,0 +1,4 @@
+pub mod Sets
+pub mod Choosing
+pub mod Columns
+pub mod Maps
