@@ -10,20 +10,18 @@ ghost use Rattle.rules.specs.Patches.{outcome};
 ghost use Rattle.rules.specs.Refusals.{accepted, tableVerdict};
 ghost use Rattle.image.specs.Held.{HoldsRecords};
 ghost use Rattle.sets.specs.Bits.{column};
-ghost use Rattle.preempt.specs.Tasks.{taskIn};
 ghost use Rattle.patch.specs.Carried.{cellCarried, cellNew, carriedBy, MapCarried};
 use crate::touched::count_places;
 use crate::touched::touched_tasks;
 use preempt::barred::read_barred;
-use preempt::decide::may_preempt;
+use preempt::columns::Columns;
+use preempt::columns::ids_of;
+use preempt::columns::transactions_of;
+use preempt::map::is_decided;
 use preempt::map::row;
-use preempt::tasks::ids_of;
 use preempt::tasks::read_tasks;
-use preempt::tasks::task_in;
-use preempt::tasks::transactions_of;
-use rules::Task;
 use sets::bits::is_set;
-use sets::bits::power;
+use sets::bits::with_bit_if;
 use table::count::count_kind;
 use table::place::numbers_from;
 use table::place::place_of;
@@ -32,14 +30,6 @@ use table::place::place_of;
 pub struct Carried {
     pub map: [u64; 64],
     pub touched: u32,
-}
-
-// What the decisions of one row share: the period of its task's transaction, the bits of the tasks that a pair bars, and the
-// task itself.
-pub struct Decision {
-    pub period: u32,
-    pub bars: u64,
-    pub low: Task,
 }
 
 // Where the base has the tasks with these ids; the number of its tasks where it has none.
@@ -82,50 +72,45 @@ fn is_cell_set(bits: u64, place: u32) -> bool
     is_set(bits, j)
 }
 
-// Whether cell j is set in the new row of an untouched task: with a touched task it is decided, and any other is that of
-// the row before, which has it where the other task stood.
+// Whether cell j is set in the new row i of a task that is not touched: with a touched task it is decided, and any other is
+// that of the row before, which has it where the other task stood.
 fn is_carried_set(
-    decision: Decision,
-    high: Task,
+    columns: &Columns,
+    bars: u64,
     touched: u64,
     old: &[u32],
     before: u64,
+    i: usize,
     j: usize,
 ) -> bool
-    requires { ⌜ (j < 64) × (64 ≤ length (now old)) ⌝ }
-    ensures { λ r. ⌜ r ≡ cellCarried decision high touched (now (old .entry)) before j ⌝ }
+    requires { ⌜ (i < 64) × ((j < 64) × (64 ≤ length (now old))) ⌝ }
+    ensures { λ r. ⌜ r ≡ cellCarried (now (columns .entry)) bars touched (now (old .entry)) before i j ⌝ }
 {
     if is_set(touched, j) {
-        return may_preempt(
-            decision.period,
-            is_set(decision.bars, j),
-            decision.low,
-            high,
-        );
+        return is_decided(columns, bars, i, j);
     }
     let place = old[j];
     is_cell_set(before, place)
 }
 
-// One row of the new map from the row before, for a task that is not touched.
+// Row i of the new map from the row before, for a task that is not touched.
 fn carried_row(
-    fields: &[u32; 576],
+    columns: &Columns,
     count: usize,
-    decision: Decision,
+    bars: u64,
     touched: u64,
     old: &[u32],
     before: u64,
+    i: usize,
 ) -> u64
-    requires { ⌜ (count ≤ 64) × (64 ≤ length (now old)) ⌝ }
-    ensures { λ r. ⌜ r ≡ rowFrom count (λ j. cellCarried decision (taskIn (now (fields .entry)) j) touched (now (old .entry)) before j) ⌝ }
+    requires { ⌜ (i < 64) × ((count ≤ 64) × (64 ≤ length (now old))) ⌝ }
+    ensures { λ r. ⌜ r ≡ rowFrom count (cellCarried (now (columns .entry)) bars touched (now (old .entry)) before i) ⌝ }
 {
     let mut bits: u64 = 0;
     let mut j: usize = 0;
     while j < count {
-        let high = task_in(fields, j);
-        if is_carried_set(decision, high, touched, old, before, j) {
-            bits += power(j);
-        }
+        let set = is_carried_set(columns, bars, touched, old, before, i, j);
+        bits = with_bit_if(bits, j, set);
         j += 1;
     }
     bits
@@ -133,7 +118,7 @@ fn carried_row(
 
 // Row i of the new map. Whether its task is touched, so that each of its cells is decided, is asked once for all of them.
 fn new_row(
-    fields: &[u32; 576],
+    columns: &Columns,
     count: usize,
     bars: u64,
     touched: u64,
@@ -142,23 +127,18 @@ fn new_row(
     i: usize,
 ) -> u64
     requires { ⌜ (i < 64) × ((count ≤ 64) × (64 ≤ length (now old))) ⌝ }
-    ensures { λ r. ⌜ r ≡ rowFrom count (cellNew (now (fields .entry)) bars touched (now (old .entry)) (now (rows .entry)) i) ⌝ }
+    ensures { λ r. ⌜ r ≡ rowFrom count (cellNew (now (columns .entry)) bars touched (now (old .entry)) (now (rows .entry)) i) ⌝ }
 {
     if is_set(touched, i) {
-        return row(fields, count, bars, i);
+        return row(columns, count, bars, i);
     }
-    let decision = Decision {
-        period: fields[512 + i],
-        bars,
-        low: task_in(fields, i),
-    };
     let before = row_before(rows, old[i]);
-    carried_row(fields, count, decision, touched, old, before)
+    carried_row(columns, count, bars, touched, old, before, i)
 }
 
 // The rows of the new map.
 fn carried_rows(
-    fields: &[u32; 576],
+    columns: &Columns,
     barred: &[u64; 64],
     count: usize,
     touched: u64,
@@ -166,12 +146,12 @@ fn carried_rows(
     rows: &[u64],
 ) -> [u64; 64]
     requires { ⌜ (count ≤ 64) × (64 ≤ length (now old)) ⌝ }
-    ensures { λ r. ⌜ r ≡ mapFrom count (carriedBy (now (fields .entry)) (now (barred .entry)) touched (now (old .entry)) (now (rows .entry))) ⌝ }
+    ensures { λ r. ⌜ r ≡ mapFrom count (carriedBy (now (columns .entry)) (now (barred .entry)) touched (now (old .entry)) (now (rows .entry))) ⌝ }
 {
     let mut map = [0u64; 64];
     let mut i: usize = 0;
     while i < count {
-        map[i] = new_row(fields, count, barred[i], touched, old, rows, i);
+        map[i] = new_row(columns, count, barred[i], touched, old, rows, i);
         i += 1;
     }
     map
@@ -185,11 +165,11 @@ pub fn carry_map(base: &[u8], patch: &[u8], image: &[u8], rows: &[u64]) -> Carri
     ensures { λ r. ⌜ MapCarried (records (now (base .entry))) (records (now (patch .entry))) (now (rows .entry)) r ⌝ }
 {
     let tasks = read_tasks(image);
-    let ids = ids_of(&tasks.fields);
+    let ids = ids_of(&tasks.columns);
     let barred = read_barred(image, ids, tasks.count);
-    let touched = touched_tasks(patch, ids, transactions_of(&tasks.fields), tasks.count);
+    let touched = touched_tasks(patch, ids, transactions_of(&tasks.columns), tasks.count);
     let old = old_places(base, ids, tasks.count);
-    let map = carried_rows(&tasks.fields, &barred, tasks.count, touched, &old, rows);
+    let map = carried_rows(&tasks.columns, &barred, tasks.count, touched, &old, rows);
     Carried {
         map,
         touched: count_places(touched, tasks.count),

@@ -15,9 +15,9 @@ use image::bytes::two_bytes;
 use image::records::record_at;
 use image::records::record_count;
 use sets::bits::is_set;
-use sets::bits::members;
 use sets::bits::power;
-use sets::bits::union;
+use sets::places::members;
+use sets::places::union;
 use table::place::place_of;
 
 // The task with an id, or none.

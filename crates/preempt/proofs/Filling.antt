@@ -1,4 +1,4 @@
--- The fields of the tasks, read place by place: each column is filled up to the next place, and the next task fills one place
+-- The columns of the tasks, read place by place: each column is filled up to the next place, and the next task fills one place
 -- of each.
 use Prim.Native.Nat.{ℕ, zero, suc, _+_, _*_, _-_, _≤_, _<_}
 use mathlib.Core.List.{List, [], _∷_}
@@ -9,73 +9,72 @@ use lib.Seq.{drop-set-add, drop-set-lt, take-set-lt, take-set-le}
 use Rattle.rules.specs.declared.Task.{Task}
 use Rattle.rules.specs.Records.{taskAt, periodAt}
 use Rattle.sets.specs.Bits.{column}
-use Rattle.preempt.specs.Tasks.{FieldsTo}
+use Rattle.preempt.specs.Tasks.{columnIn, ColumnsTo}
 use Rattle.sets.proofs.Columns.{column-none, column-filled}
 
--- column m of the fields
-abbrev columnIn : ℕ → List ℕ → List ℕ
-columnIn m fields = take 64 (drop (64 * m) fields)
-
 -- a number written at a place of a column
-column-same : (m : ℕ) (l : List ℕ) (i x : ℕ) → i < 64 → columnIn m (set l (64 * m + i) x) ≡ set (columnIn m l) i x
-column-same m l i x h = ap (take 64) (drop-set-add (64 * m) l i x) ∙ take-set-lt 64 (drop (64 * m) l) i x h
+part-same : (m : ℕ) (l : List ℕ) (i x : ℕ) → i < 64 → columnIn m (set l (64 * m + i) x) ≡ set (columnIn m l) i x
+part-same m l i x h = ap (take 64) (drop-set-add (64 * m) l i x) ∙ take-set-lt 64 (drop (64 * m) l) i x h
 
 -- changes no column behind it
-column-behind : (m : ℕ) (l : List ℕ) (at x : ℕ) → at < 64 * m → columnIn m (set l at x) ≡ columnIn m l
-column-behind m l at x h = ap (take 64) (drop-set-lt (64 * m) l at x h)
+part-behind : (m : ℕ) (l : List ℕ) (at x : ℕ) → at < 64 * m → columnIn m (set l at x) ≡ columnIn m l
+part-behind m l at x h = ap (take 64) (drop-set-lt (64 * m) l at x h)
 
 -- and none before it
-column-before : (m : ℕ) (l : List ℕ) (at x : ℕ) → 64 * m + 64 ≤ at → columnIn m (set l at x) ≡ columnIn m l
-column-before m l at x h =
+part-before : (m : ℕ) (l : List ℕ) (at x : ℕ) → 64 * m + 64 ≤ at → columnIn m (set l at x) ≡ columnIn m l
+part-before m l at x h =
     let further : at ≡ 64 * m + (at - 64 * m) = omega arith in
     ap (λ (n : ℕ). columnIn m (set l n x)) further
     ∙ ap (take 64) (drop-set-add (64 * m) l (at - 64 * m) x)
     ∙ take-set-le 64 (drop (64 * m) l) (at - 64 * m) x (omega arith)
 
--- numbers written at one place of the columns from k on
+-- numbers written at one place of the columns from column k on, one number in each
 abbrev put : ℕ → List ℕ → ℕ → List ℕ → List ℕ
 put k l i [] = l
 put k l i (x ∷ xs) = put (k + 1) (set l (64 * k + i) x) i xs
 
+-- keep the length
 put-length : (k : ℕ) (l : List ℕ) (i : ℕ) (xs : List ℕ) → length (put k l i xs) ≡ length l
 put-length k l i [] = refl
 put-length k l i (x ∷ xs) = put-length (k + 1) (set l (64 * k + i) x) i xs ∙ length-set l (64 * k + i) x
 
+-- change no column before them
 put-before : (k : ℕ) (l : List ℕ) (i : ℕ) (xs : List ℕ) (m : ℕ) → m < k → columnIn m (put k l i xs) ≡ columnIn m l
 put-before k l i [] m h = refl
 put-before k l i (x ∷ xs) m h =
-    put-before (k + 1) (set l (64 * k + i) x) i xs m (omega arith) ∙ column-before m l (64 * k + i) x (omega arith)
+    put-before (k + 1) (set l (64 * k + i) x) i xs m (omega arith) ∙ part-before m l (64 * k + i) x (omega arith)
 
+-- and stand each in its column
 put-here : (k : ℕ) (l : List ℕ) (i : ℕ) (xs : List ℕ) (m : ℕ) → i < 64 → m < length xs
     → columnIn (k + m) (put k l i xs) ≡ set (columnIn (k + m) l) i (getD xs m 0)
 put-here k l i [] m inside h = absurd (omega arith)
 put-here k l i (x ∷ xs) zero inside h =
     let same : k + 0 ≡ k = omega arith in
-    rw same (put-before (k + 1) (set l (64 * k + i) x) i xs k (omega arith) ∙ column-same k l i x inside)
+    rw same (put-before (k + 1) (set l (64 * k + i) x) i xs k (omega arith) ∙ part-same k l i x inside)
 put-here k l i (x ∷ xs) (suc m) inside h =
     ap (λ (n : ℕ). columnIn n (put (k + 1) (set l (64 * k + i) x) i xs)) next
     ∙ put-here (k + 1) (set l (64 * k + i) x) i xs m inside (omega arith)
-    ∙ ap (λ (c : List ℕ). set c i (getD xs m 0)) (column-behind (k + 1 + m) l (64 * k + i) x (omega arith) ∙ ap (λ (n : ℕ). columnIn n l) (sym next))
+    ∙ ap (λ (c : List ℕ). set c i (getD xs m 0)) (part-behind (k + 1 + m) l (64 * k + i) x (omega arith) ∙ ap (λ (n : ℕ). columnIn n l) (sym next))
   where
     next : k + suc m ≡ k + 1 + m
     next = omega arith
 
--- what is read of one task, from the second column on
-abbrev others : Task → ℕ → List ℕ
-others task period =
+-- what is read of one task behind its id
+abbrev behindId : Task → ℕ → List ℕ
+behindId task period =
     task .transaction ∷ (task .priority ∷ (task .offset ∷ (task .jitter ∷ (task .response ∷ (task .size ∷ (task .threshold ∷ (period ∷ [])))))))
 
--- a task put at a place
+-- a task put at a place; its id goes by itself, as the code's index for it is i, and 64 * 0 + i does not compute to that
 abbrev pub withTask : List ℕ → ℕ → Task → ℕ → List ℕ
-withTask fields i task period = put 1 (set fields i (task .id)) i (others task period)
+withTask columns i task period = put 1 (set columns i (task .id)) i (behindId task period)
 
 -- a column of no task
 none-at : (l : List ℕ) (f : ℕ → ℕ) → l ≡ replicate 64 0 → l ≡ column 0 f
 none-at l f e = e ∙ column-none f
 
 -- nothing is read of no task
-pub fields-none : (rs : List (List ℕ)) → FieldsTo rs 0 (replicate 576 0)
-fields-none rs =
+pub columns-none : (rs : List (List ℕ)) → ColumnsTo rs 0 (replicate 576 0)
+columns-none rs =
     record {
       whole = length-replicate {A = ℕ} 576 0;
       ids = none-at _ _ refl;
@@ -90,15 +89,15 @@ fields-none rs =
     }
 
 -- and one task more fills one place more
-pub fields-more : (rs : List (List ℕ)) (i : ℕ) (fields : List ℕ) (task : Task) (period : ℕ) → i < 64 → FieldsTo rs i fields → task ≡ taskAt rs i → period ≡ periodAt rs i
-    → FieldsTo rs (i + 1) (withTask fields i task period)
-fields-more rs i fields task period inside so-far here own =
+pub columns-more : (rs : List (List ℕ)) (i : ℕ) (columns : List ℕ) (task : Task) (period : ℕ) → i < 64 → ColumnsTo rs i columns → task ≡ taskAt rs i → period ≡ periodAt rs i
+    → ColumnsTo rs (i + 1) (withTask columns i task period)
+columns-more rs i columns task period inside so-far here own =
     record {
-      whole = put-length 1 (set fields i (task .id)) i (others task period) ∙ length-set fields i (task .id) ∙ so-far .whole;
+      whole = put-length 1 (set columns i (task .id)) i (behindId task period) ∙ length-set columns i (task .id) ∙ so-far .whole;
       ids =
-          put-before 1 (set fields i (task .id)) i (others task period) 0 (omega arith)
-          ∙ take-set-lt 64 fields i (task .id) inside
-          ∙ column-filled i (λ k. taskAt rs k .id) (take 64 fields) (task .id) inside (so-far .ids) (ap (λ (t : Task). t .id) here);
+          put-before 1 (set columns i (task .id)) i (behindId task period) 0 (omega arith)
+          ∙ take-set-lt 64 columns i (task .id) inside
+          ∙ column-filled i (λ k. taskAt rs k .id) (take 64 columns) (task .id) inside (so-far .ids) (ap (λ (t : Task). t .id) here);
       transactions = more 0 (λ k. taskAt rs k .transaction) (omega arith) (so-far .transactions) (ap (λ (t : Task). t .transaction) here);
       priorities = more 1 (λ k. taskAt rs k .priority) (omega arith) (so-far .priorities) (ap (λ (t : Task). t .priority) here);
       offsets = more 2 (λ k. taskAt rs k .offset) (omega arith) (so-far .offsets) (ap (λ (t : Task). t .offset) here);
@@ -109,9 +108,9 @@ fields-more rs i fields task period inside so-far here own =
       periods = more 7 (periodAt rs) (omega arith) (so-far .periods) own;
     }
   where
-    more : (m : ℕ) (f : ℕ → ℕ) → m < 8 → columnIn (1 + m) fields ≡ column i f → getD (others task period) m 0 ≡ f i
-        → columnIn (1 + m) (withTask fields i task period) ≡ column (i + 1) f
+    more : (m : ℕ) (f : ℕ → ℕ) → m < 8 → columnIn (1 + m) columns ≡ column i f → getD (behindId task period) m 0 ≡ f i
+        → columnIn (1 + m) (withTask columns i task period) ≡ column (i + 1) f
     more m f below filled value =
-        put-here 1 (set fields i (task .id)) i (others task period) m inside below
-        ∙ ap (λ (c : List ℕ). set c i (getD (others task period) m 0)) (column-behind (1 + m) fields i (task .id) (omega arith))
-        ∙ column-filled i f (columnIn (1 + m) fields) (getD (others task period) m 0) inside filled value
+        put-here 1 (set columns i (task .id)) i (behindId task period) m inside below
+        ∙ ap (λ (c : List ℕ). set c i (getD (behindId task period) m 0)) (part-behind (1 + m) columns i (task .id) (omega arith))
+        ∙ column-filled i f (columnIn (1 + m) columns) (getD (behindId task period) m 0) inside filled value

@@ -1,4 +1,3 @@
-pub mod Marking
 pub mod Accepted
 pub mod Pairs
 pub mod Filling

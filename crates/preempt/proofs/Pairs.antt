@@ -1,7 +1,7 @@
 -- What the first k pairs of a table forbid, by the places of their tasks.
-use Prim.Native.Nat.{ℕ, _+_, _<_}
+use Prim.Native.Nat.{ℕ, _+_, _≤_, _<_}
 use mathlib.Core.List.{List, []}
-use mathlib.Core.Bool.{Bool, false, _&&_, _||_}
+use mathlib.Core.Bool.{Bool, true, false, cond, _&&_, _||_, or-false}
 use mathlib.Core.Path.{_≡_, refl, ap, sym, _∙_}
 use native.Mathlib.Omega.{arith}
 use borrow.Author.Tests.{eq-eqb, ne-eqb, eqb-true, eqb-false, ltb-true, ltb-false}
@@ -14,9 +14,32 @@ use Rattle.rules.proofs.Numbers.{either, lowest-zero, some-more, some-false}
 use Rattle.rules.proofs.Table.Shape.{Shape}
 use Rattle.rules.proofs.Table.Listed.{Listed, number-at-place, place-below}
 use Rattle.rules.proofs.Maps.{map-ext}
-use Rattle.preempt.specs.Tasks.{withPair}
-use Rattle.preempt.specs.Tasks.{barredMap}
-use Rattle.preempt.proofs.Marking.{map-with-pair}
+use Rattle.sets.specs.Bits.{withCell}
+use Rattle.sets.proofs.Maps.{map-marked}
+use Rattle.preempt.specs.Tasks.{withPair, barredMap}
+
+-- tests put together in another order
+regroup : (x y p q : Bool) → ((x || y) || (p && q)) ≡ (x || (y || (q && p)))
+regroup true y p q = refl
+regroup false true p q = refl
+regroup false false true true = refl
+regroup false false true false = refl
+regroup false false false true = refl
+regroup false false false false = refl
+
+-- what a pair adds to a map of forbidden places, one way or both
+one-or-both : (n : ℕ) (test : ℕ → ℕ → Bool) (both : Bool) (a b : ℕ) → n ≤ 64 → a < n → b < n
+    → cond both (withCell (withCell (mapFrom n test) a b) b a) (withCell (mapFrom n test) a b)
+    ≡ mapFrom n (λ i j. test i j || ((eqb i a && eqb j b) || (both && (eqb j a && eqb i b))))
+one-or-both n test true a b most h l =
+    ap (λ (rows : List ℕ). withCell rows b a) (map-marked n test a b most h l)
+    ∙ map-marked n (λ i j. test i j || (eqb i a && eqb j b)) b a most l h
+    ∙ map-ext n (λ i j. (test i j || (eqb i a && eqb j b)) || (eqb i b && eqb j a)) (λ i j. test i j || ((eqb i a && eqb j b) || (eqb j a && eqb i b)))
+    (λ i j k m. regroup (test i j) (eqb i a && eqb j b) (eqb i b) (eqb j a))
+one-or-both n test false a b most h l =
+    map-marked n test a b most h l
+    ∙ map-ext n (λ i j. test i j || (eqb i a && eqb j b)) (λ i j. test i j || ((eqb i a && eqb j b) || false))
+    (λ i j k m. ap (λ (x : Bool). test i j || x) (sym (or-false (eqb i a && eqb j b))))
 
 -- one of the first k pairs forbids that the task at place i is preempted by the one at place j
 abbrev pub barredTo : List (List ℕ) → ℕ → ℕ → ℕ → Bool
@@ -79,7 +102,7 @@ module _ (rs : List (List ℕ)) (shape : Shape rs) (named : Listed rs) where
     -- the map with one more pair
     pub pair-marked : withPair (mapFrom (taskCount rs) (barredTo rs k)) (sortOf (getD (pairs rs) k [])) a b ≡ mapFrom (taskCount rs) (barredTo rs (k + 1))
     pair-marked =
-        map-with-pair (taskCount rs) (barredTo rs k) (sortOf (getD (pairs rs) k [])) a b (shape .few-tasks) first-below second-below
+        one-or-both (taskCount rs) (barredTo rs k) (eqb (sortOf (getD (pairs rs) k [])) 1) a b (shape .few-tasks) first-below second-below
         ∙ map-ext (taskCount rs) (λ i j. barredTo rs k i j || ((eqb i a && eqb j b) || (eqb (sortOf (getD (pairs rs) k [])) 1 && (eqb j a && eqb i b)))) (barredTo rs (k + 1))
         (λ i j l m.
         ap (λ (x : Bool). barredTo rs k i j || x) (sym (pair-bars i j l m))

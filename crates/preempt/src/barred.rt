@@ -11,7 +11,7 @@ ghost use Rattle.preempt.specs.Tasks.{withPair, barredMap};
 use image::bytes::byte_at;
 use image::bytes::two_bytes;
 use image::records::record_at;
-use sets::rows::mark;
+use sets::rows::set_cell;
 use table::count::count_kind;
 use table::place::place_of;
 
@@ -23,9 +23,9 @@ fn forbid(rows: &mut [u64], ids: &[u32], known: usize, fields: &[u8])
 {
     let first = place_of(ids, known, two_bytes(fields, 2));
     let second = place_of(ids, known, two_bytes(fields, 4));
-    mark(rows, first, second);
+    set_cell(rows, first, second);
     if byte_at(fields, 1) == 1 {
-        mark(rows, second, first);
+        set_cell(rows, second, first);
     }
 }
 

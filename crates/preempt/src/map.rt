@@ -9,56 +9,63 @@ ghost use Rattle.rules.specs.Refusals.{accepted, tableVerdict};
 ghost use Rattle.rules.specs.Calls.{over, mapVerdict, mapAfter};
 ghost use Rattle.preempt.specs.Tasks.{decidedOn, decidedBy};
 use crate::barred::read_barred;
+use crate::columns::Columns;
+use crate::columns::ids_of;
+use crate::columns::period_read;
+use crate::columns::task_read;
 use crate::decide::may_preempt;
-use crate::tasks::ids_of;
 use crate::tasks::read_tasks;
-use crate::tasks::task_in;
 use rules::Verdict;
 use sets::bits::is_set;
-use sets::bits::power;
+use sets::bits::with_bit_if;
 use table::table_verdict;
 
-// Row i of the map: a bit for each task that may preempt the one at place i. The tasks are read where they lie, so that no
-// row copies them.
-pub fn row(fields: &[u32; 576], count: usize, bars: u64, i: usize) -> u64
-    requires { ⌜ (i < 64) × (count ≤ 64) ⌝ }
-    ensures { λ r. ⌜ r ≡ rowFrom count (decidedOn (now (fields .entry)) bars i) ⌝ }
+// Whether the task at place i may be preempted by the one at place j; bars holds the places that a pair keeps from it.
+pub fn is_decided(columns: &Columns, bars: u64, i: usize, j: usize) -> bool
+    requires { ⌜ (i < 64) × (j < 64) ⌝ }
+    ensures { λ r. ⌜ r ≡ decidedOn (now (columns .entry)) bars i j ⌝ }
 {
-    let period = fields[512 + i];
-    let low = task_in(fields, i);
+    let low = task_read(columns, i);
+    let high = task_read(columns, j);
+    may_preempt(period_read(columns, i), is_set(bars, j), low, high)
+}
+
+// Row i of the map: a bit for each task that may preempt the one at place i.
+pub fn row(columns: &Columns, count: usize, bars: u64, i: usize) -> u64
+    requires { ⌜ (i < 64) × (count ≤ 64) ⌝ }
+    ensures { λ r. ⌜ r ≡ rowFrom count (decidedOn (now (columns .entry)) bars i) ⌝ }
+{
     let mut row: u64 = 0;
     let mut j: usize = 0;
     while j < count {
-        if may_preempt(period, is_set(bars, j), low, task_in(fields, j)) {
-            row += power(j);
-        }
+        row = with_bit_if(row, j, is_decided(columns, bars, i, j));
         j += 1;
     }
     row
 }
 
-// The map of the tasks, where the bits of barred say which pairs of places are forbidden.
-pub fn map_of(fields: &[u32; 576], barred: &[u64; 64], count: usize) -> [u64; 64]
+// The map of the tasks, where the rows of barred say which pairs of places are forbidden.
+pub fn map_of(columns: &Columns, barred: &[u64; 64], count: usize) -> [u64; 64]
     requires { ⌜ count ≤ 64 ⌝ }
-    ensures { λ r. ⌜ r ≡ mapFrom count (decidedBy (now (fields .entry)) (now (barred .entry))) ⌝ }
+    ensures { λ r. ⌜ r ≡ mapFrom count (decidedBy (now (columns .entry)) (now (barred .entry))) ⌝ }
 {
-    let mut rows = [0u64; 64];
+    let mut map = [0u64; 64];
     let mut i: usize = 0;
     while i < count {
-        rows[i] = row(fields, count, barred[i], i);
+        map[i] = row(columns, count, barred[i], i);
         i += 1;
     }
-    rows
+    map
 }
 
-// Writes 64 rows over the start of a lent map.
-pub fn write_rows(map: [u64; 64], rows: &mut [u64])
-    requires { ⌜ (length map ≡ 64) × (64 ≤ length (now rows)) ⌝ }
-    ensures { λ r. ⌜ now (rows .exit) ≡ over map (now (rows .entry)) ⌝ }
+// Writes the 64 rows of a map over the start of a lent one.
+pub fn write_rows(map: [u64; 64], lent: &mut [u64])
+    requires { ⌜ (length map ≡ 64) × (64 ≤ length (now lent)) ⌝ }
+    ensures { λ r. ⌜ now (lent .exit) ≡ over map (now (lent .entry)) ⌝ }
 {
     let mut i: usize = 0;
     while i < 64 {
-        rows[i] = map[i];
+        lent[i] = map[i];
         i += 1;
     }
 }
@@ -69,8 +76,8 @@ pub fn table_map(image: &[u8]) -> [u64; 64]
     ensures { λ r. ⌜ r ≡ mapOf (records (now (image .entry))) ⌝ }
 {
     let tasks = read_tasks(image);
-    let barred = read_barred(image, ids_of(&tasks.fields), tasks.count);
-    map_of(&tasks.fields, &barred, tasks.count)
+    let barred = read_barred(image, ids_of(&tasks.columns), tasks.count);
+    map_of(&tasks.columns, &barred, tasks.count)
 }
 
 // Fills a lent map from a table image: the verdict, and the map of the table in the first 64 rows. A refusal writes nothing.

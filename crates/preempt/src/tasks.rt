@@ -1,4 +1,4 @@
-// The tasks of a table, read once into arrays by their places.
+// The tasks of a table, read once into one array, a column for each field.
 ghost use mathlib.Core.Path.{_≡_};
 ghost use mathlib.Core.Bool.{true};
 ghost use mathlib.Core.List.{[]};
@@ -7,7 +7,16 @@ ghost use lib.ListN.{length, getD};
 ghost use Rattle.rules.specs.Blocks.{records};
 ghost use Rattle.rules.specs.Records.{jitterOf, thresholdOf, taskOf, transactions, tasks, taskCount, periodIn, periodAt};
 ghost use Rattle.rules.specs.Refusals.{accepted, tableVerdict};
-ghost use Rattle.preempt.specs.Tasks.{TasksRead, taskIn, idsIn, transactionsIn, prioritiesIn, sizesIn, thresholdsIn};
+ghost use Rattle.preempt.specs.Tasks.{TasksRead};
+use crate::columns::Columns;
+use crate::columns::JITTERS;
+use crate::columns::OFFSETS;
+use crate::columns::PERIODS;
+use crate::columns::PRIORITIES;
+use crate::columns::RESPONSES;
+use crate::columns::SIZES;
+use crate::columns::THRESHOLDS;
+use crate::columns::TRANSACTIONS;
 use image::bytes::byte_at;
 use image::bytes::four_bytes;
 use image::bytes::two_bytes;
@@ -16,12 +25,10 @@ use rules::Task;
 use table::count::count_kind;
 use table::place::place_from;
 
-// What is read of the tasks: how many they are, and their fields in columns of 64 by their places, one column behind the
-// other: ids, transactions, priorities, offsets, jitters, responses, sizes, thresholds, and the periods of their
-// transactions; 0 beyond the tasks.
+// What is read of the tasks: how many they are, and their columns.
 pub struct Tasks {
     pub count: usize,
-    pub fields: [u32; 576],
+    pub columns: Columns,
 }
 
 // A jitter, where one that is missing is read as the period of the task's transaction.
@@ -105,78 +112,25 @@ pub fn period_at(image: &[u8], first: usize, place: usize) -> u32
 // The tasks of an accepted table.
 pub fn read_tasks(image: &[u8]) -> Tasks
     requires { ⌜ accepted (tableVerdict (now image)) ≡ true ⌝ }
-    ensures { λ r. ⌜ TasksRead (records (now (image .entry))) (r .count) (r .fields) ⌝ }
+    ensures { λ r. ⌜ TasksRead (records (now (image .entry))) (r .count) (r .columns) ⌝ }
 {
     let first = count_kind(image, 1);
     let count = count_kind(image, 2);
-    let mut fields = [0u32; 576];
+    let mut columns = [0u32; 576];
     let mut i: usize = 0;
     while i < count {
         let period = period_at(image, first, i);
         let task = task_at(image, first, i, period);
-        fields[i] = task.id;
-        fields[64 + i] = task.transaction;
-        fields[128 + i] = task.priority;
-        fields[192 + i] = task.offset;
-        fields[256 + i] = task.jitter;
-        fields[320 + i] = task.response;
-        fields[384 + i] = task.size;
-        fields[448 + i] = task.threshold;
-        fields[512 + i] = period;
+        columns[i] = task.id;
+        columns[TRANSACTIONS + i] = task.transaction;
+        columns[PRIORITIES + i] = task.priority;
+        columns[OFFSETS + i] = task.offset;
+        columns[JITTERS + i] = task.jitter;
+        columns[RESPONSES + i] = task.response;
+        columns[SIZES + i] = task.size;
+        columns[THRESHOLDS + i] = task.threshold;
+        columns[PERIODS + i] = period;
         i += 1;
     }
-    Tasks { count, fields }
-}
-
-// The task at a place, as it was read.
-pub fn task_in(fields: &[u32; 576], i: usize) -> Task
-    requires { ⌜ i < 64 ⌝ }
-    ensures { λ r. ⌜ r ≡ taskIn (now (fields .entry)) i ⌝ }
-{
-    Task {
-        id: fields[i],
-        transaction: fields[64 + i],
-        priority: fields[128 + i],
-        offset: fields[192 + i],
-        jitter: fields[256 + i],
-        response: fields[320 + i],
-        size: fields[384 + i],
-        threshold: fields[448 + i],
-    }
-}
-
-// The columns that others read by themselves.
-pub fn ids_of(fields: &[u32; 576]) -> &[u32]
-    ensures { λ r. ⌜ now r ≡ idsIn (now (fields .entry)) ⌝ }
-{
-    let all = &fields[..];
-    &all[0..64]
-}
-
-pub fn transactions_of(fields: &[u32; 576]) -> &[u32]
-    ensures { λ r. ⌜ now r ≡ transactionsIn (now (fields .entry)) ⌝ }
-{
-    let all = &fields[..];
-    &all[64..128]
-}
-
-pub fn priorities_of(fields: &[u32; 576]) -> &[u32]
-    ensures { λ r. ⌜ now r ≡ prioritiesIn (now (fields .entry)) ⌝ }
-{
-    let all = &fields[..];
-    &all[128..192]
-}
-
-pub fn sizes_of(fields: &[u32; 576]) -> &[u32]
-    ensures { λ r. ⌜ now r ≡ sizesIn (now (fields .entry)) ⌝ }
-{
-    let all = &fields[..];
-    &all[384..448]
-}
-
-pub fn thresholds_of(fields: &[u32; 576]) -> &[u32]
-    ensures { λ r. ⌜ now r ≡ thresholdsIn (now (fields .entry)) ⌝ }
-{
-    let all = &fields[..];
-    &all[448..512]
+    Tasks { count, columns }
 }

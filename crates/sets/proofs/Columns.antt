@@ -42,7 +42,7 @@ pub column-none : (f : ℕ → ℕ) → replicate 64 0 ≡ column 0 f
 column-none f = column-zero 0 f (λ i h. absurd (omega arith))
 
 -- one more place is filled in
-pub column-more : (n : ℕ) (f : ℕ → ℕ) → n < 64 → set (column n f) n (f n) ≡ column (n + 1) f
+column-more : (n : ℕ) (f : ℕ → ℕ) → n < 64 → set (column n f) n (f n) ≡ column (n + 1) f
 column-more n f most =
     ext-getD 0 (set (column n f) n (f n)) (column (n + 1) f)
     (length-set (column n f) n (f n) ∙ column-length n f ∙ sym (column-length (n + 1) f))

@@ -1,7 +1,7 @@
 -- Laws of maps: a map is a column of rows, and one more of its cells may be set.
-use Prim.Native.Nat.{ℕ, _^_, _≤_, _<_}
+use Prim.Native.Nat.{ℕ, _+_, _^_, _≤_, _<_}
 use mathlib.Core.List.{List}
-use mathlib.Core.Bool.{Bool, true, false, cond, _&&_, _||_, or-false}
+use mathlib.Core.Bool.{Bool, false, cond, _&&_, _||_}
 use mathlib.Core.Path.{_≡_, refl, ap, sym, _∙_}
 use native.Mathlib.Omega.{arith}
 use borrow.Author.Tests.{ltb-false, eq-eqb, ne-eqb}
@@ -12,14 +12,32 @@ use lib.Pow.{pow-lt}
 use Rattle.rules.specs.Preempt.{rowFrom, mapFrom, bitAt}
 use Rattle.rules.proofs.Numbers.{either, sumTo-ext}
 use Rattle.rules.proofs.Bits.{bit-of-power, bit-or, bits-at, bits-small, bits-none, bits-made}
-use Rattle.rules.proofs.Maps.{rowTest, map-row, row-ext, map-ext}
-use Rattle.sets.specs.Bits.{column, marked}
-use Rattle.sets.proofs.Columns.{column-zero, column-set}
+use Rattle.rules.proofs.Maps.{rowTest, map-row, row-ext}
+use Rattle.sets.specs.Bits.{column, withCell}
+use Rattle.sets.proofs.Columns.{column-zero, column-none, column-filled, column-set}
 
 -- a map is a column of rows
 map-column : (n : ℕ) (test : ℕ → ℕ → Bool) → mapFrom n test ≡ column n (λ i. rowFrom n (test i))
 unfolding mapFrom column
 map-column n test = refl
+
+-- a loop fills a map row by row: the rows below place i are those of the tests, and the others are 0
+pub record Filled (n : ℕ) (test : ℕ → ℕ → Bool) (i : ℕ) (map : List ℕ) : Type 0 where
+  pub passed : i ≤ n
+  pub rows : map ≡ column i (λ k. rowFrom n (test k))
+
+pub filled-none : {n : ℕ} {test : ℕ → ℕ → Bool} → Filled n test 0 (replicate 64 0)
+filled-none {n} {test} = record { passed = omega arith; rows = column-none (λ k. rowFrom n (test k)) }
+
+pub filled-more : {n i row : ℕ} {test : ℕ → ℕ → Bool} {map : List ℕ} → Filled n test i map → n ≤ 64 → i < n → row ≡ rowFrom n (test i)
+    → Filled n test (i + 1) (set map i row)
+filled-more {n} {i} {row} {test} {map} so-far most below here =
+    record { passed = omega arith; rows = column-filled i (λ k. rowFrom n (test k)) map row (omega arith) (so-far .rows) here }
+
+pub filled-all : {n i : ℕ} {test : ℕ → ℕ → Bool} {map : List ℕ} → Filled n test i map → n ≤ i → map ≡ mapFrom n test
+filled-all {n} {i} {test} so-far done =
+    let end : i ≡ n = omega (arith, so-far .passed) in
+    so-far .rows ∙ ap (λ (k : ℕ). column k (λ k. rowFrom n (test k))) end ∙ sym (map-column n test)
 
 -- where no test passes, each row is 0
 pub map-none : (n : ℕ) (test : ℕ → ℕ → Bool) → ((i j : ℕ) → test i j ≡ false) → replicate 64 0 ≡ mapFrom n test
@@ -40,7 +58,7 @@ row-marked n test b most h =
 
 -- one more cell of a map
 pub map-marked : (n : ℕ) (test : ℕ → ℕ → Bool) (a b : ℕ) → n ≤ 64 → a < n → b < n
-    → marked (mapFrom n test) a b ≡ mapFrom n (λ i j. test i j || (eqb i a && eqb j b))
+    → withCell (mapFrom n test) a b ≡ mapFrom n (λ i j. test i j || (eqb i a && eqb j b))
 map-marked n test a b most h l =
     let more : ℕ → ℕ → Bool = λ i j. test i j || (eqb i a && eqb j b) in
     let row = bitOr (getD (mapFrom n test) a 0) (2 ^ b) in

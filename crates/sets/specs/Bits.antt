@@ -16,5 +16,5 @@ unfoldable pub column : ℕ → (ℕ → ℕ) → List ℕ
 column n f = upTo (λ i. cond (ltb i n) (f i) 0) 64
 
 -- rows with bit j of row i set besides
-abbrev pub marked : List ℕ → ℕ → ℕ → List ℕ
-marked rows i j = set rows i (bitOr (getD rows i 0) (2 ^ j))
+abbrev pub withCell : List ℕ → ℕ → ℕ → List ℕ
+withCell rows i j = set rows i (bitOr (getD rows i 0) (2 ^ j))

@@ -1,11 +1,9 @@
-// Sets of places: a 64-bit number whose bit j, counted from the lowest, says whether place j is in the set.
+// Single bits of a number, counted from the lowest.
 ghost use mathlib.Core.Path.{_≡_};
 ghost use mathlib.Core.Bool.{cond};
-ghost use Prim.Native.Nat.{_^_, _≤_, _<_};
+ghost use Prim.Native.Nat.{_^_, _<_};
 ghost use lib.Bits.{bitOr};
-ghost use lib.ListN.{length};
-ghost use Rattle.rules.specs.Preempt.{rowFrom, bitAt};
-ghost use Rattle.sets.specs.Bits.{hasNumber};
+ghost use Rattle.rules.specs.Preempt.{bitAt};
 
 // The number with one bit set.
 pub fn power(j: usize) -> u64
@@ -40,25 +38,4 @@ pub fn with_bit_if(bits: u64, j: usize, wanted: bool) -> u64
         return with_bit(bits, j);
     }
     bits
-}
-
-// The bits that are set in either number.
-pub fn union(a: u64, b: u64) -> u64
-    ensures { λ r. ⌜ r ≡ bitOr a b ⌝ }
-{
-    a | b
-}
-
-// The places below count whose number is this one.
-pub fn members(numbers: &[u32], count: usize, number: u32) -> u64
-    requires { ⌜ (count ≤ 64) × (count ≤ length (now numbers)) ⌝ }
-    ensures { λ r. ⌜ r ≡ rowFrom count (hasNumber (now (numbers .entry)) number) ⌝ }
-{
-    let mut set: u64 = 0;
-    let mut place: usize = 0;
-    while place < count {
-        set = with_bit_if(set, place, numbers[place] == number);
-        place += 1;
-    }
-    set
 }

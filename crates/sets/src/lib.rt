@@ -1,4 +1,4 @@
-// Sets of places and rows of them: single bits, what is made of sets, and cells of rows.
+// Sets of places, and rows of them. A set is a number of 64 bits: bit j, counted from the lowest, says whether place j is in it.
 pub mod bits;
 pub mod places;
 pub mod rows;

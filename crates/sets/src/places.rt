@@ -1,13 +1,17 @@
-// What is made of sets of places: what two share, what one has outside another, the lowest place, a set without it, and all
-// below a count.
+// What is made of sets of places: what two share and what one has outside another, both together, the lowest place, a set
+// without it, all below a count and those with a number; and a place to index with.
 ghost use mathlib.Core.Path.{_≡_};
 ghost use mathlib.Core.Bool.{true};
 ghost use Prim.Native.Nat.{_≤_, _<_};
-ghost use Rattle.rules.specs.Preempt.{bitAt};
+ghost use lib.Bits.{bitOr};
+ghost use lib.ListN.{length};
+ghost use Rattle.rules.specs.Preempt.{rowFrom, bitAt};
+ghost use Rattle.sets.specs.Bits.{hasNumber};
 ghost use Rattle.sets.specs.Places.{Lowest, Without, Shared, Outside, Below};
+use crate::bits::with_bit_if;
 
 // A place, as a number to index with.
-pub fn wide(place: u8) -> usize
+pub fn index_of(place: u8) -> usize
     ensures { λ r. ⌜ r ≡ place ⌝ }
 {
     place as usize
@@ -53,4 +57,25 @@ pub fn all_below(count: usize) -> u64
     } else {
         (1 << count) - 1
     }
+}
+
+// The places of either set.
+pub fn union(a: u64, b: u64) -> u64
+    ensures { λ r. ⌜ r ≡ bitOr a b ⌝ }
+{
+    a | b
+}
+
+// The places below count whose number is this one.
+pub fn members(numbers: &[u32], count: usize, number: u32) -> u64
+    requires { ⌜ (count ≤ 64) × (count ≤ length (now numbers)) ⌝ }
+    ensures { λ r. ⌜ r ≡ rowFrom count (hasNumber (now (numbers .entry)) number) ⌝ }
+{
+    let mut set: u64 = 0;
+    let mut place: usize = 0;
+    while place < count {
+        set = with_bit_if(set, place, numbers[place] == number);
+        place += 1;
+    }
+    set
 }

@@ -7,19 +7,19 @@ use borrow.Author.Tests.{lt-ltb}
 use lib.ListN.{length, getD}
 use lib.Dec.{ltb, eqb}
 use Rattle.rules.proofs.Tests.{T-true, true-T}
-use Rattle.rules.specs.Records.{numberOf, transactions, taskCount, taskAt}
+use Rattle.rules.specs.Records.{numberOf, transactions, taskCount}
 use Rattle.rules.specs.Numbers.{sumTo, largestTo}
 use Rattle.rules.specs.Preempt.{cell, bitAt}
 use Rattle.rules.proofs.Table.Shape.{Shape}
-use Rattle.preempt.specs.Tasks.{TasksRead, idsIn, transactionsIn, prioritiesIn, sizesIn, thresholdsIn}
+use Rattle.sets.specs.Places.{Below}
+use Rattle.preempt.specs.Tasks.{TasksRead, idColumn, transactionColumn, priorityColumn, sizeColumn, thresholdColumn}
 use Rattle.stack.specs.declared.call.Found.{Found}
 use Rattle.stack.specs.Paths.{sizeIn}
 use Rattle.stack.specs.Levels.{levelsOf}
 use Rattle.stack.specs.Figures.{ownTask, OwnPaths, figuresIn, FoundOver, FoundFor}
-use Rattle.stack.proofs.Columns.{field-total}
+use Rattle.stack.proofs.Columns.{id-is, transaction-is, priority-is, size-is, threshold-is}
 use Rattle.rules.specs.Chains.{weight, Chain, Path, All, Before, Largest, Heaviest, related, sizeAt, idAt, priorityAt, inTransaction, TransactionBound, levelBound}
 use Rattle.rules.specs.Chains.Before.{less, later, shorter}
-use Rattle.sets.specs.Places.{Below}
 
 -- every place of the list is below n
 abbrev pub Within : ℕ → List ℕ → Type 0
@@ -85,25 +85,19 @@ largest-all n R cover S r below h =
     everywhere [] w = tt
     everywhere (i ∷ c) w = (true-T (bitAt cover i) (below i ∙ lt-ltb i n (w .0)), everywhere c (w .1))
 
-module _ (rs : List (List ℕ)) (lent : List ℕ) (count : ℕ) (fields : List ℕ) (shape : Shape rs) (read : TasksRead rs count fields) where
-  sizes-same : sizeIn (sizesIn fields) ≡ sizeAt rs
-  sizes-same = fun-ext (field-total rs (λ task. task .size) (sizesIn fields) (shape .few-tasks) refl (read .columns .sizes))
+module _ (rs : List (List ℕ)) (lent : List ℕ) (count : ℕ) (columns : List ℕ) (shape : Shape rs) (read : TasksRead rs count columns) where
+  sizes-same : sizeIn (sizeColumn columns) ≡ sizeAt rs
+  sizes-same = fun-ext (size-is rs count columns shape read)
 
-  pub priorities-same : (λ (i : ℕ). getD (prioritiesIn fields) i 0) ≡ priorityAt rs
-  priorities-same = fun-ext (field-total rs (λ task. task .priority) (prioritiesIn fields) (shape .few-tasks) refl (read .columns .priorities))
+  priorities-same : (λ (i : ℕ). getD (priorityColumn columns) i 0) ≡ priorityAt rs
+  priorities-same = fun-ext (priority-is rs count columns shape read)
 
-  thresholds-same : (i : ℕ) → getD (thresholdsIn fields) i 0 ≡ taskAt rs i .threshold
-  thresholds-same = field-total rs (λ task. task .threshold) (thresholdsIn fields) (shape .few-tasks) refl (read .columns .thresholds)
-
-  pub numbers-same : (i : ℕ) → getD (transactionsIn fields) i 0 ≡ taskAt rs i .transaction
-  numbers-same = field-total rs (λ task. task .transaction) (transactionsIn fields) (shape .few-tasks) refl (read .columns .transactions)
-
-  pub ids-same : (λ (i : ℕ). getD (idsIn fields) i 0) ≡ idAt rs
-  ids-same = fun-ext (field-total rs (λ task. task .id) (idsIn fields) (shape .few-tasks) refl (read .columns .ids))
+  pub ids-same : (λ (i : ℕ). getD (idColumn columns) i 0) ≡ idAt rs
+  ids-same = fun-ext (id-is rs count columns shape read)
 
   -- rows in which a cell counts as it does for the bounds are the relation
   pub rows-same : (rows : List ℕ)
-      → ((i j : ℕ) → cell rows i j ≡ ((ltb i count && ltb j count) && (ltb (getD (thresholdsIn fields) i 0) (getD (prioritiesIn fields) j 0) && cell lent i j)))
+      → ((i j : ℕ) → cell rows i j ≡ ((ltb i count && ltb j count) && (ltb (getD (thresholdColumn columns) i 0) (getD (priorityColumn columns) j 0) && cell lent i j)))
       → cell rows ≡ related rs lent
   unfolding related
   rows-same rows cells =
@@ -111,11 +105,10 @@ module _ (rs : List (List ℕ)) (lent : List ℕ) (count : ℕ) (fields : List �
       (λ i.
       fun-ext
       (λ j.
-      let one : (k : ℕ) → getD (prioritiesIn fields) k 0 ≡ priorityAt rs k = λ k. ap (λ (f : ℕ → ℕ). f k) priorities-same in
-      cells i j ∙ rw (read .count, thresholds-same i, one j)))
+      cells i j ∙ rw (read .count, threshold-is rs count columns shape read i, priority-is rs count columns shape read j)))
 
   module _ (rows : List ℕ) (same : cell rows ≡ related rs lent) where
-    pub chain-found : (c : List ℕ) → Heaviest count (cell rows) (sizeIn (sizesIn fields)) (λ i. i) c
+    chain-found : (c : List ℕ) → Heaviest count (cell rows) (sizeIn (sizeColumn columns)) (λ i. i) c
         → Heaviest (taskCount rs) (related rs lent) (sizeAt rs) (idAt rs) c
     chain-found c h =
         heaviest-ids (taskCount rs) (related rs lent) (sizeAt rs) (idAt rs) c (shape .tasks-rise)
@@ -124,25 +117,21 @@ module _ (rs : List (List ℕ)) (lent : List ℕ) (count : ℕ) (fields : List �
         (subst (λ (S : ℕ → ℕ). Heaviest count (cell rows) S (λ i. i) c) sizes-same h)))
 
     -- a bound over lists of the rows is one over lists of the relation
-    over-relation : (Lists : ℕ → (ℕ → ℕ → Bool) → List ℕ → Type 0) (r : ℕ) → Largest (Lists count (cell rows)) (weight (sizeIn (sizesIn fields))) r
+    over-relation : (Lists : ℕ → (ℕ → ℕ → Bool) → List ℕ → Type 0) (r : ℕ) → Largest (Lists count (cell rows)) (weight (sizeIn (sizeColumn columns))) r
         → Largest (Lists (taskCount rs) (related rs lent)) (weight (sizeAt rs)) r
     over-relation Lists r h =
         subst (λ (n : ℕ). Largest (Lists n (related rs lent)) (weight (sizeAt rs)) r) (read .count)
         (subst (λ (R : ℕ → ℕ → Bool). Largest (Lists count R) (weight (sizeAt rs)) r) same
         (subst (λ (S : ℕ → ℕ). Largest (Lists count (cell rows)) (weight S) r) sizes-same h))
 
-    pub path-found : (r : ℕ) → Largest (Path count (cell rows)) (weight (sizeIn (sizesIn fields))) r
-        → Largest (Path (taskCount rs) (related rs lent)) (weight (sizeAt rs)) r
-    path-found r h = over-relation Path r h
-
-    pub own-found : (r : ℕ) → OwnPaths count rows (sizesIn fields) (transactionsIn fields) (transactions rs) (length (transactions rs)) r → TransactionBound rs lent r
+    own-found : (r : ℕ) → OwnPaths count rows (sizeColumn columns) (transactionColumn columns) (transactions rs) (length (transactions rs)) r → TransactionBound rs lent r
     own-found r own =
         record {
           each = own .each;
           bound = λ k l.
-              largest-as (taskCount rs) (related rs lent) (ownTask (transactionsIn fields) (transactions rs) k) (inTransaction rs k) (sizeAt rs) (own .each k)
-              (λ i h. ap (λ (n : ℕ). eqb n (numberOf (getD (transactions rs) k []))) (numbers-same i))
-              (over-relation (λ n R c. Path n R c × All (ownTask (transactionsIn fields) (transactions rs) k) c) (own .each k) (own .bound k l));
+              largest-as (taskCount rs) (related rs lent) (ownTask (transactionColumn columns) (transactions rs) k) (inTransaction rs k) (sizeAt rs) (own .each k)
+              (λ i h. ap (λ (n : ℕ). eqb n (numberOf (getD (transactions rs) k []))) (transaction-is rs count columns shape read i))
+              (over-relation (λ n R c. Path n R c × All (ownTask (transactionColumn columns) (transactions rs) k) c) (own .each k) (own .bound k l));
           total = own .total;
         }
 
@@ -150,21 +139,21 @@ module _ (rs : List (List ℕ)) (lent : List ℕ) (count : ℕ) (fields : List �
   abbrev levelSum : (ℕ → ℕ) → (ℕ → ℕ) → ℕ → ℕ
   levelSum P S n = sumTo (λ p. largestTo (λ i. cond (eqb (P i) p) (S i) 0) n) (largestTo P n + 1)
 
-  pub levels-found : levelsOf (prioritiesIn fields) (sizesIn fields) count ≡ levelBound rs
+  levels-found : levelsOf (priorityColumn columns) (sizeColumn columns) count ≡ levelBound rs
   levels-found =
-      ap (λ (P : ℕ → ℕ). levelSum P (sizeIn (sizesIn fields)) count) priorities-same
+      ap (λ (P : ℕ → ℕ). levelSum P (sizeIn (sizeColumn columns)) count) priorities-same
       ∙ ap (λ (S : ℕ → ℕ). levelSum (priorityAt rs) S count) sizes-same
       ∙ ap (levelSum (priorityAt rs) (sizeAt rs)) (read .count)
 
   -- what was found over the rows of the relation is right for the table and the map
   pub found-for : (rows : List ℕ) (found : Found) → cell rows ≡ related rs lent
-      → FoundOver count rows (sizesIn fields) (prioritiesIn fields) (transactionsIn fields) (transactions rs) found → FoundFor rs lent found
+      → FoundOver count rows (sizeColumn columns) (priorityColumn columns) (transactionColumn columns) (transactions rs) found → FoundFor rs lent found
   found-for rows found same over =
       record {
         right =
             record {
               chain = chain-found rows same (figuresIn found .chain) (over .heaviest);
-              path = path-found rows same (found .path) (over .path);
+              path = over-relation rows same Path (found .path) (over .path);
               transactions = own-found rows same (found .transactions) (over .own);
               levels = over .levels ∙ levels-found;
             };

@@ -17,15 +17,15 @@ use crate::own::transaction_bound;
 use crate::path::path_bound;
 use crate::related::related_rows;
 use crate::search::heaviest_chain;
-use preempt::tasks::ids_of;
-use preempt::tasks::priorities_of;
+use preempt::columns::Columns;
+use preempt::columns::ids_of;
+use preempt::columns::priorities_of;
+use preempt::columns::sizes_of;
+use preempt::columns::thresholds_of;
+use preempt::columns::transactions_of;
 use preempt::tasks::read_tasks;
-use preempt::tasks::sizes_of;
-use preempt::tasks::thresholds_of;
-use preempt::tasks::transactions_of;
 use rules::Bounds;
-use rules::Verdict;
-use sets::places::wide;
+use sets::places::index_of;
 use table::table_verdict;
 
 // The chain by its places, its length and weight, and the other bounds.
@@ -86,16 +86,16 @@ fn find_over(
 }
 
 // The chain and the bounds of an accepted table over a lent map, from what was read of its tasks.
-fn find(image: &[u8], fields: &[u32; 576], count: usize, map: &[u64]) -> Found
+fn find(image: &[u8], columns: &Columns, count: usize, map: &[u64]) -> Found
     requires { ⌜ accepted (tableVerdict (now image)) ≡ true ⌝ }
-    requires { ⌜ TasksRead (records (now image)) count (now fields) ⌝ }
+    requires { ⌜ TasksRead (records (now image)) count (now columns) ⌝ }
     requires { ⌜ 64 ≤ length (now map) ⌝ }
     ensures { λ r. ⌜ FoundFor (records (now (image .entry))) (now (map .entry)) r ⌝ }
 {
-    let priorities = priorities_of(fields);
-    let sizes = sizes_of(fields);
-    let numbers = transactions_of(fields);
-    let rows = related_rows(thresholds_of(fields), priorities, map, count);
+    let priorities = priorities_of(columns);
+    let sizes = sizes_of(columns);
+    let numbers = transactions_of(columns);
+    let rows = related_rows(thresholds_of(columns), priorities, map, count);
     let order = by_falling_priority(priorities, count);
     find_over(image, priorities, sizes, numbers, &rows, &order, count)
 }
@@ -109,7 +109,7 @@ fn write_ids(places: [u8; 64], count: usize, all: &[u32], ids: &mut [u16])
 {
     let mut k: usize = 0;
     while k < count {
-        let place = wide(places[k]);
+        let place = index_of(places[k]);
         ids[k] = all[place] as u16;
         k += 1;
     }
@@ -131,10 +131,10 @@ pub fn find_bounds(image: &[u8], map: &[u64], ids: &mut [u16]) -> Bounds
         return refused(11, 0);
     }
     let tasks = read_tasks(image);
-    let found = find(image, &tasks.fields, tasks.count, map);
+    let found = find(image, &tasks.columns, tasks.count, map);
     let places = found.places;
     let length = found.length;
-    write_ids(places, length, ids_of(&tasks.fields), ids);
+    write_ids(places, length, ids_of(&tasks.columns), ids);
     Bounds {
         number: 0,
         place: 0,

@@ -11,7 +11,7 @@ use crate::path::largest_at;
 use crate::path::path_sums;
 use image::bytes::two_bytes;
 use image::records::record_at;
-use sets::bits::members;
+use sets::places::members;
 use table::count::count_kind;
 
 // For each transaction of an accepted table the path bound of the tasks with its number, added up. One array of best sums is

@@ -6,9 +6,9 @@ ghost use Rattle.stack.specs.Setting.{Ready};
 ghost use Rattle.stack.specs.Paths.{sizeIn, LargestAt, PathSums};
 use sets::bits::is_set;
 use sets::places::all_below;
+use sets::places::index_of;
 use sets::places::lowest;
 use sets::places::shared;
-use sets::places::wide;
 use sets::places::without;
 
 // The largest of the sums at the places of a set, or 0.
@@ -46,7 +46,7 @@ pub fn path_sums(
     let mut rest = cover;
     let mut k: usize = 0;
     while 0 < rest {
-        let place = wide(order[k]);
+        let place = index_of(order[k]);
         k += 1;
         if is_set(rest, place) {
             let higher = shared(rows[place], cover);

@@ -7,16 +7,16 @@ use native.Mathlib.Omega.{arith}
 use lib.ListN.{length, getD}
 use Rattle.rules.specs.Numbers.{Bytes}
 use Rattle.rules.specs.Blocks.{records}
-use Rattle.rules.specs.Records.{tasks, taskCount, taskAt, placeOf}
+use Rattle.rules.specs.Records.{tasks, placeOf}
 use Rattle.rules.specs.Patches.{outcome}
 use Rattle.rules.specs.Refusals.{accepted, tableVerdict}
 use Rattle.rules.proofs.Table.Shape.{Shape}
 use Rattle.rules.proofs.Table.Listed.{table-of}
 use Rattle.table.specs.Numbers.{Directory}
-use Rattle.preempt.specs.Tasks.{TasksRead, idsIn, transactionsIn, barredMap}
+use Rattle.preempt.specs.Tasks.{TasksRead, idColumn, transactionColumn, barredMap}
 use Rattle.sets.specs.Bits.{column}
 use Rattle.sets.proofs.Columns.{column-length}
-use Rattle.preempt.proofs.Reading.{ids-directory}
+use Rattle.preempt.proofs.Reading.{few-read, part-long, ids-directory}
 use Rattle.patch.specs.Touched.{Marks, touchedAt}
 use Rattle.patch.proofs.Carrying.{carried-read, touched-counted}
 use borrow.Author.Needs.{needs}
@@ -24,11 +24,11 @@ use Rattle.patch.proofs.carried.carry_map.Statement.{statement}
 use Rattle.patch.proofs.carried.carry_map.Tie as tie
 
 -- the ids that are read of an accepted table rise, and there are at most 64
-directory : (image : List ℕ) → Bytes image → accepted (tableVerdict image) ≡ true → (count : ℕ) (fields : List ℕ) → TasksRead (records image) count fields → Directory (tasks (records image)) (idsIn fields) count
-directory image bytes table count fields read = ids-directory (records image) count fields (table-of image bytes table .0) read
+directory : (image : List ℕ) → Bytes image → accepted (tableVerdict image) ≡ true → (count : ℕ) (columns : List ℕ) → TasksRead (records image) count columns → Directory (tasks (records image)) (idColumn columns) count
+directory image bytes table count columns read = ids-directory (records image) count columns (table-of image bytes table .0) read
 
-few-read : (image : List ℕ) → Bytes image → accepted (tableVerdict image) ≡ true → (count : ℕ) (fields : List ℕ) → TasksRead (records image) count fields → count ≤ 64
-few-read image bytes table count fields read = omega (arith, read .count, table-of image bytes table .0 .few-tasks)
+few : (image : List ℕ) → Bytes image → accepted (tableVerdict image) ≡ true → (count : ℕ) (columns : List ℕ) → TasksRead (records image) count columns → count ≤ 64
+few image bytes table count columns read = few-read (records image) count columns (table-of image bytes table .0) read
 
 read-tasks-requires : tie.Need-read-tasks-requires
 read-tasks-requires c κs = search needs
@@ -43,7 +43,7 @@ read-barred-requires c κs =
     let image = start .args .image .now in
     let bytes : Bytes image = λ k. read .before .before .shared-slice-known3 .given k .fits in
     let tasks-read = read .read-tasks in
-    (start .pre .0 .1, rw (c .ids-of .ensures) (directory image bytes (start .pre .0 .1) (tasks-read .result .count) (tasks-read .result .fields) (tasks-read .ensures)))
+    (start .pre .0 .1, rw (c .ids-of .ensures) (directory image bytes (start .pre .0 .1) (tasks-read .result .count) (tasks-read .result .columns) (tasks-read .ensures)))
 
 transactions-of-requires : tie.Need-transactions-of-requires
 transactions-of-requires c κs = search needs
@@ -55,11 +55,11 @@ touched-tasks-requires c κs =
     let image = start .args .image .now in
     let bytes : Bytes image = λ k. read .before .before .shared-slice-known3 .given k .fits in
     let tasks-read = read .read-tasks in
-    let ids = directory image bytes (start .pre .0 .1) (tasks-read .result .count) (tasks-read .result .fields) (tasks-read .ensures) in
-    let few = few-read image bytes (start .pre .0 .1) (tasks-read .result .count) (tasks-read .result .fields) (tasks-read .ensures) in
-    let long = ap length (tasks-read .ensures .columns .transactions) ∙ column-length (taskCount (records image)) (λ i. taskAt (records image) i .transaction) in
+    let ids = directory image bytes (start .pre .0 .1) (tasks-read .result .count) (tasks-read .result .columns) (tasks-read .ensures) in
+    let most = few image bytes (start .pre .0 .1) (tasks-read .result .count) (tasks-read .result .columns) (tasks-read .ensures) in
+    let long = part-long 1 (tasks-read .result .columns) (omega arith) (tasks-read .ensures .columns .whole) in
     let named = c .before .before .before .ids-of .ensures in
-    ((few, (rw named (ids .room), rw (c .transactions-of .ensures) (omega arith))), (rw named (ids .rising), start .pre .1 .1))
+    ((most, (rw named (ids .room), rw (c .transactions-of .ensures) (omega arith))), (rw named (ids .rising), start .pre .1 .1))
 
 old-places-requires : tie.Need-old-places-requires
 old-places-requires c κs =
@@ -68,8 +68,8 @@ old-places-requires c κs =
     let image = start .args .image .now in
     let bytes : Bytes image = λ k. read .before .before .shared-slice-known3 .given k .fits in
     let tasks-read = read .read-tasks in
-    let ids = directory image bytes (start .pre .0 .1) (tasks-read .result .count) (tasks-read .result .fields) (tasks-read .ensures) in
-    (start .pre .0 .0, (few-read image bytes (start .pre .0 .1) (tasks-read .result .count) (tasks-read .result .fields) (tasks-read .ensures), rw (c .before .before .before .before .ids-of .ensures) (ids .room)))
+    let ids = directory image bytes (start .pre .0 .1) (tasks-read .result .count) (tasks-read .result .columns) (tasks-read .ensures) in
+    (start .pre .0 .0, (few image bytes (start .pre .0 .1) (tasks-read .result .count) (tasks-read .result .columns) (tasks-read .ensures), rw (c .before .before .before .before .ids-of .ensures) (ids .room)))
 
 slice-aggregate-carried-rows : tie.Need-slice-aggregate-carried-rows
 slice-aggregate-carried-rows c = search needs
@@ -83,7 +83,7 @@ carried-rows-requires c κs =
     let tasks-read = read .read-tasks in
     let old = c .before .before .before .before .old-places in
     let long = ap length (old .ensures) ∙ column-length (tasks-read .result .count) _ in
-    (few-read image bytes (start .pre .0 .1) (tasks-read .result .count) (tasks-read .result .fields) (tasks-read .ensures), omega arith)
+    (few image bytes (start .pre .0 .1) (tasks-read .result .count) (tasks-read .result .columns) (tasks-read .ensures), omega arith)
 
 count-places-requires : tie.Need-count-places-requires
 count-places-requires c κs =
@@ -92,7 +92,7 @@ count-places-requires c κs =
     let image = start .args .image .now in
     let bytes : Bytes image = λ k. read .before .before .shared-slice-known3 .given k .fits in
     let tasks-read = read .read-tasks in
-    few-read image bytes (start .pre .0 .1) (tasks-read .result .count) (tasks-read .result .fields) (tasks-read .ensures)
+    few image bytes (start .pre .0 .1) (tasks-read .result .count) (tasks-read .result .columns) (tasks-read .ensures)
 
 returns : tie.Need-returns
 returns c =
@@ -105,19 +105,19 @@ returns c =
     let ps = records (start .args .patch .now) in
     let made = start .pre .1 .0 in
     let count = tasks-read .result .count in
-    let fields = tasks-read .result .fields in
+    let columns = tasks-read .result .columns in
     let shape : Shape (outcome bs ps) = rw made at (table-of image bytes (start .pre .0 .1) .0) in
-    let whole : TasksRead (outcome bs ps) count fields = rw made at (tasks-read .ensures) in
+    let whole : TasksRead (outcome bs ps) count columns = rw made at (tasks-read .ensures) in
     let pairs = c .before .before .before .before .before .before .before .before .before .before .read-barred in
     let barred : pairs .result ≡ barredMap (outcome bs ps) = rw made at (pairs .ensures) in
     let named = c .before .before .before .before .before .before .before .before .before .before .before .ids-of .ensures in
     let set = c .before .before .before .before .before .before .before .touched-tasks in
-    let marked : Marks count (touchedAt ps (idsIn fields) (transactionsIn fields)) (set .result) = rw (← named, ← c .before .before .before .before .before .before .before .before .transactions-of .ensures) (set .ensures) in
+    let marked : Marks count (touchedAt ps (idColumn columns) (transactionColumn columns)) (set .result) = rw (← named, ← c .before .before .before .before .before .before .before .before .transactions-of .ensures) (set .ensures) in
     let old = c .before .before .before .before .before .before .old-places in
-    let placed : old .result ≡ column count (λ i. placeOf (tasks bs) (getD (idsIn fields) i 0)) = rw (← named) (old .ensures) in
+    let placed : old .result ≡ column count (λ i. placeOf (tasks bs) (getD (idColumn columns) i 0)) = rw (← named) (old .ensures) in
     record {
-      map = c .before .carried-rows .ensures ∙ carried-read bs ps count fields (pairs .result) (old .result) (set .result) shape whole barred marked placed (start .args .rows .now);
-      touched = c .count-places .ensures ∙ touched-counted bs ps count fields (pairs .result) (old .result) (set .result) shape whole barred marked placed;
+      map = c .before .carried-rows .ensures ∙ carried-read bs ps count columns (pairs .result) (old .result) (set .result) shape whole barred marked placed (start .args .rows .now);
+      touched = c .count-places .ensures ∙ touched-counted bs ps count columns (pairs .result) (old .result) (set .result) shape whole barred marked placed;
     }
 
 pub carry-map-spec : {M : Type 1} → statement M

@@ -8,15 +8,12 @@ use Rattle.patch.proofs.carried.is_carried_set.Tie as tie
 is-set-requires : tie.Need-is-set-requires
 is-set-requires c κs = search needs
 
-is-set-requires-2 : tie.Need-is-set-requires-2
-is-set-requires-2 c κs = search needs
-
-may-preempt-requires : tie.Need-may-preempt-requires
-may-preempt-requires c κs = search needs
+is-decided-requires : tie.Need-is-decided-requires
+is-decided-requires c κs = search needs
 
 returns : tie.Need-returns
 unfolding cellCarried
-returns c = rw (sym (c .before .before .before .is-set .ensures) ∙ c .before .before .if1 .taken, ← c .before .is-set2 .ensures) (c .may-preempt .ensures)
+returns c = rw (sym (c .before .before .is-set .ensures) ∙ c .before .if1 .taken) (c .is-decided .ensures)
 
 mul-place : tie.Need-mul-place
 mul-place c = search needs
@@ -36,8 +33,7 @@ is-carried-set-spec =
     tie.close
     (tie.spec
     is-set-requires
-    is-set-requires-2
-    may-preempt-requires
+    is-decided-requires
     returns
     mul-place
     shared-slice-read-place

@@ -8,7 +8,7 @@ use borrow.Author.Needs.{needs}
 use lib.ListN.{length, length-set}
 use Rattle.rules.specs.Records.{numberOf, secondOf}
 use Rattle.table.specs.Numbers.{placeAmong}
-use Rattle.sets.specs.Bits.{marked}
+use Rattle.sets.specs.Bits.{withCell}
 use Rattle.preempt.proofs.barred.forbid.Statement.{statement}
 use Rattle.preempt.proofs.barred.forbid.Tie as tie
 
@@ -39,15 +39,15 @@ two-bytes-requires-2 c κs = search needs
 place-of-requires-2 : tie.Need-place-of-requires-2
 place-of-requires-2 c κs = search needs
 
-mark-requires : tie.Need-mark-requires
-mark-requires c κs = (omega (arith, places-below (c .before) .0, c .before .before .before .before .before .before .before .before .pre .0 .0), places-below (c .before) .1)
+set-cell-requires : tie.Need-set-cell-requires
+set-cell-requires c κs = (omega (arith, places-below (c .before) .0, c .before .before .before .before .before .before .before .before .pre .0 .0), places-below (c .before) .1)
 
 byte-at-requires : tie.Need-byte-at-requires
 byte-at-requires c κs = search needs
 
-mark-requires-2 : tie.Need-mark-requires-2
-mark-requires-2 c κs =
-    let long = ap length (c .before .before .before .before .before .mark .ensures) ∙ length-set (c .before .before .before .before .before .before .before .before .before .before .before .before .before .before .args .rows .now) (c .before .before .before .before .before .before .before .before .before .place-of .result) _ in
+set-cell-requires-2 : tie.Need-set-cell-requires-2
+set-cell-requires-2 c κs =
+    let long = ap length (c .before .before .before .before .before .set-cell .ensures) ∙ length-set (c .before .before .before .before .before .before .before .before .before .before .before .before .before .before .args .rows .now) (c .before .before .before .before .before .before .before .before .before .place-of .result) _ in
     (omega (arith, places-below (c .before .before .before .before .before .before .before) .1, c .before .before .before .before .before .before .before .before .before .before .before .before .before .before .pre .0 .0), places-below (c .before .before .before .before .before .before .before) .0)
 
 same-length : tie.Need-same-length
@@ -58,7 +58,7 @@ returns c =
     let rows = c .before .before .before .before .before .before .before .before .before .before .before .before .before .before .before .before .before .args .rows .now in
     let read = c .before .before .before .before .before .before .before .before .before .before in
     rw (eq-eqb _ 1 (sym (c .before .before .before .before .before .byte-at .ensures .0) ∙ c .before .before .before .before .if1 .taken), ← first-place read, ← second-place read)
-    (c .before .before .mark2 .ensures ∙ ap (λ (l : List ℕ). marked l (c .before .before .before .before .before .before .before .before .before .before .place-of2 .result) (c .before .before .before .before .before .before .before .before .before .before .before .before .place-of .result)) (c .before .before .before .before .before .before .before .before .mark .ensures))
+    (c .before .before .set-cell2 .ensures ∙ ap (λ (l : List ℕ). withCell l (c .before .before .before .before .before .before .before .before .before .before .place-of2 .result) (c .before .before .before .before .before .before .before .before .before .before .before .before .place-of .result)) (c .before .before .before .before .before .before .before .before .set-cell .ensures))
 
 same-length-2 : tie.Need-same-length-2
 same-length-2 c = search needs
@@ -66,7 +66,7 @@ same-length-2 c = search needs
 returns-2 : tie.Need-returns-2
 returns-2 c =
     let read = c .before .before .before .before .before .before in
-    rw (ne-eqb _ 1 (λ e. c .if1 .left (c .before .byte-at .ensures .0 ∙ e)), ← first-place read, ← second-place read) (c .before .before .before .before .mark .ensures)
+    rw (ne-eqb _ 1 (λ e. c .if1 .left (c .before .byte-at .ensures .0 ∙ e)), ← first-place read, ← second-place read) (c .before .before .before .before .set-cell .ensures)
 
 pub forbid-spec : {M : Type 1} → statement M
 forbid-spec =
@@ -76,9 +76,9 @@ forbid-spec =
     place-of-requires
     two-bytes-requires-2
     place-of-requires-2
-    mark-requires
+    set-cell-requires
     byte-at-requires
-    mark-requires-2
+    set-cell-requires-2
     same-length
     returns
     same-length-2

@@ -1,9 +1,8 @@
 -- The decision from what was read is the decision of the table.
 use mathlib.Core.Path.{_∙_}
-use native.Mathlib.Omega.{arith}
 use borrow.Author.Needs.{needs}
 use Rattle.rules.specs.Blocks.{records}
-use Rattle.preempt.proofs.Reading.{ids-directory, map-read}
+use Rattle.preempt.proofs.Reading.{few-read, ids-directory, map-read}
 use Rattle.preempt.proofs.Accepted.{shape}
 use Rattle.preempt.proofs.map.table_map.Statement.{statement}
 use Rattle.preempt.proofs.map.table_map.Tie as tie
@@ -18,14 +17,14 @@ read-barred-requires : tie.Need-read-barred-requires
 read-barred-requires c κs =
     let read = c .before .before .before in
     let start = read .before .before in
-    let ids = ids-directory (records (start .args .image .now)) (read .read-tasks .result .count) (read .read-tasks .result .fields) (shape (start .args .image .now) (read .before .shared-slice-known .given) (start .pre)) (read .read-tasks .ensures) in
+    let ids = ids-directory (records (start .args .image .now)) (read .read-tasks .result .count) (read .read-tasks .result .columns) (shape (start .args .image .now) (read .before .shared-slice-known .given) (start .pre)) (read .read-tasks .ensures) in
     (start .pre, rw (c .ids-of .ensures) ids)
 
 map-of-requires : tie.Need-map-of-requires
 map-of-requires c κs =
     let read = c .before .before .before .before .before .before .before in
     let start = read .before .before in
-    omega (arith, read .read-tasks .ensures .count, shape (start .args .image .now) (read .before .shared-slice-known .given) (start .pre) .few-tasks)
+    few-read (records (start .args .image .now)) (read .read-tasks .result .count) (read .read-tasks .result .columns) (shape (start .args .image .now) (read .before .shared-slice-known .given) (start .pre)) (read .read-tasks .ensures)
 
 returns : tie.Need-returns
 returns c =
@@ -34,7 +33,7 @@ returns c =
     let tasks = read .read-tasks in
     let barred = c .before .before .before .before .read-barred in
     c .map-of .ensures
-    ∙ map-read (records (start .args .image .now)) (tasks .result .count) (tasks .result .fields) (barred .result) (shape (start .args .image .now) (read .before .shared-slice-known .given) (start .pre)) (tasks .ensures) (barred .ensures)
+    ∙ map-read (records (start .args .image .now)) (tasks .result .count) (tasks .result .columns) (barred .result) (shape (start .args .image .now) (read .before .shared-slice-known .given) (start .pre)) (tasks .ensures) (barred .ensures)
 
 pub table-map-spec : {M : Type 1} → statement M
 table-map-spec =

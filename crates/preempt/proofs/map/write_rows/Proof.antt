@@ -11,31 +11,31 @@ use Rattle.preempt.proofs.map.write_rows.Statement.{statement}
 use Rattle.preempt.proofs.map.write_rows.Tie as tie
 
 -- one more number is written over
-next-written : (map rows₀ rows : List ℕ) (i : ℕ) → i < length map → i < length rows₀ → rows ≡ take i map ++ drop i rows₀
-    → set rows i (getD map i 0) ≡ take (i + 1) map ++ drop (i + 1) rows₀
-next-written map rows₀ rows i h h′ e =
-    rw (e, add-one, drop-cons rows₀ i 0, take-suc map i 0, append-snoc) (set-at (take i map) (getD rows₀ i 0) (drop (suc i) rows₀) (getD map i 0) i (length-take-le i map (omega arith)))
+next-written : (map lent₀ lent : List ℕ) (i : ℕ) → i < length map → i < length lent₀ → lent ≡ take i map ++ drop i lent₀
+    → set lent i (getD map i 0) ≡ take (i + 1) map ++ drop (i + 1) lent₀
+next-written map lent₀ lent i h h′ e =
+    rw (e, add-one, drop-cons lent₀ i 0, take-suc map i 0, append-snoc) (set-at (take i map) (getD lent₀ i 0) (drop (suc i) lent₀) (getD map i 0) i (length-take-le i map (omega arith)))
 
 abbrev Inv-loop : tie.InvT-loop
-Inv-loop rows₀ map i₀ rows i = (i ≤ 64) × (length rows ≡ length rows₀) × (rows ≡ take i map ++ drop i rows₀)
+Inv-loop lent₀ map i₀ lent i = (i ≤ 64) × (length lent ≡ length lent₀) × (lent ≡ take i map ++ drop i lent₀)
 
 abbrev μ-loop : tie.MeasureT-loop
-μ-loop rows₀ map i₀ rows i = 64 - i
+μ-loop lent₀ map i₀ lent i = 64 - i
 
 loop-holds : tie.Need-loop-holds Inv-loop μ-loop
 loop-holds c = (omega arith, refl, refl)
 
-mul-rows : tie.Need-mul-rows Inv-loop μ-loop
-mul-rows c = search needs
+mul-lent : tie.Need-mul-lent Inv-loop μ-loop
+mul-lent c = search needs
 
-array-read-rows : tie.Need-array-read-rows Inv-loop μ-loop
-array-read-rows c = search needs
+array-read-lent : tie.Need-array-read-lent Inv-loop μ-loop
+array-read-lent c = search needs
 
-mul-rows-2 : tie.Need-mul-rows-2 Inv-loop μ-loop
-mul-rows-2 c = search needs
+mul-lent-2 : tie.Need-mul-lent-2 Inv-loop μ-loop
+mul-lent-2 c = search needs
 
-slice-write-rows : tie.Need-slice-write-rows Inv-loop μ-loop
-slice-write-rows c = search needs
+slice-write-lent : tie.Need-slice-write-lent Inv-loop μ-loop
+slice-write-lent c = search needs
 
 add-i : tie.Need-add-i Inv-loop μ-loop
 add-i c = search needs
@@ -47,7 +47,7 @@ loop-again : tie.Need-loop-again Inv-loop μ-loop
 loop-again c =
     let a = c .before .before .args in
     let s = c .before .loop in
-    (omega arith, length-set (s .rows) (s .i) _ ∙ s .inv .1, next-written (a .t1) (a .rows .now) (s .rows) (s .i) (omega arith) (omega arith) (s .inv .2))
+    (omega arith, length-set (s .lent) (s .i) _ ∙ s .inv .1, next-written (a .t1) (a .lent .now) (s .lent) (s .i) (omega arith) (omega arith) (s .inv .2))
 
 same-length : tie.Need-same-length Inv-loop μ-loop
 same-length c = search needs
@@ -66,10 +66,10 @@ write-rows-spec =
     Inv-loop
     μ-loop
     loop-holds
-    mul-rows
-    array-read-rows
-    mul-rows-2
-    slice-write-rows
+    mul-lent
+    array-read-lent
+    mul-lent-2
+    slice-write-lent
     add-i
     loop-less
     loop-again

@@ -6,21 +6,20 @@ use native.Mathlib.Omega.{arith}
 use borrow.Author.Needs.{needs}
 use lib.ListN.{getD}
 use Rattle.table.proofs.Counts.{count-asked}
-use Rattle.rules.specs.Records.{tasks, taskCount, taskOf, periodAt}
+use Rattle.rules.specs.Records.{tasks, taskCount, taskOf}
 use Rattle.rules.specs.Blocks.{records}
-use Rattle.preempt.specs.Tasks.{FieldsTo}
+use Rattle.preempt.specs.Tasks.{ColumnsTo}
 use Rattle.preempt.proofs.Accepted.{shape}
-use Rattle.sets.proofs.Columns.{column-at}
-use Rattle.preempt.proofs.Filling.{fields-none, fields-more}
+use Rattle.preempt.proofs.Filling.{columns-none, columns-more}
 use Rattle.preempt.proofs.tasks.read_tasks.Statement.{statement}
 use Rattle.preempt.proofs.tasks.read_tasks.Tie as tie
 
 abbrev Inv-loop : tie.InvT-loop
-Inv-loop image first count fields₀ i₀ fields i =
-    (i ≤ count) × (first ≤ 16) × (count ≤ 64) × FieldsTo (records image) i fields
+Inv-loop image first count columns₀ i₀ columns i =
+    (i ≤ count) × (first ≤ 16) × (count ≤ 64) × ColumnsTo (records image) i columns
 
 abbrev μ-loop : tie.MeasureT-loop
-μ-loop image first count fields₀ i₀ fields i = count - i
+μ-loop image first count columns₀ i₀ columns i = count - i
 
 count-kind-requires : tie.Need-count-kind-requires Inv-loop μ-loop
 count-kind-requires c κs = count-asked (c .before .args .image .now) (c .before .pre) _ (omega arith)
@@ -36,7 +35,7 @@ loop-holds c =
       omega arith,
       omega (arith, c .before .count-kind .ensures .0, s .few-transactions),
       omega (arith, c .count-kind2 .ensures .0, s .few-tasks),
-      fields-none (records image),
+      columns-none (records image),
     )
 
 period-at-requires : tie.Need-period-at-requires Inv-loop μ-loop
@@ -49,83 +48,83 @@ task-at-requires c κs =
     let counted = c .before .before .before in
     (counted .before .before .before .pre, (counted .before .count-kind .ensures .0, omega (arith, counted .count-kind2 .ensures .0)))
 
-mul-fields : tie.Need-mul-fields Inv-loop μ-loop
-mul-fields c = search needs
+mul-columns : tie.Need-mul-columns Inv-loop μ-loop
+mul-columns c = search needs
 
-array-write-fields : tie.Need-array-write-fields Inv-loop μ-loop
-array-write-fields c = search needs
+array-write-columns : tie.Need-array-write-columns Inv-loop μ-loop
+array-write-columns c = search needs
 
-add-fields : tie.Need-add-fields Inv-loop μ-loop
-add-fields c = search needs
+add-columns : tie.Need-add-columns Inv-loop μ-loop
+add-columns c = search needs
 
-mul-fields-2 : tie.Need-mul-fields-2 Inv-loop μ-loop
-mul-fields-2 c = search needs
+mul-columns-2 : tie.Need-mul-columns-2 Inv-loop μ-loop
+mul-columns-2 c = search needs
 
-array-write-fields-2 : tie.Need-array-write-fields-2 Inv-loop μ-loop
-array-write-fields-2 c = search needs
+array-write-columns-2 : tie.Need-array-write-columns-2 Inv-loop μ-loop
+array-write-columns-2 c = search needs
 
-add-fields-2 : tie.Need-add-fields-2 Inv-loop μ-loop
-add-fields-2 c = search needs
+add-columns-2 : tie.Need-add-columns-2 Inv-loop μ-loop
+add-columns-2 c = search needs
 
-mul-fields-3 : tie.Need-mul-fields-3 Inv-loop μ-loop
-mul-fields-3 c = search needs
+mul-columns-3 : tie.Need-mul-columns-3 Inv-loop μ-loop
+mul-columns-3 c = search needs
 
-array-write-fields-3 : tie.Need-array-write-fields-3 Inv-loop μ-loop
-array-write-fields-3 c = search needs
+array-write-columns-3 : tie.Need-array-write-columns-3 Inv-loop μ-loop
+array-write-columns-3 c = search needs
 
-add-fields-3 : tie.Need-add-fields-3 Inv-loop μ-loop
-add-fields-3 c = search needs
+add-columns-3 : tie.Need-add-columns-3 Inv-loop μ-loop
+add-columns-3 c = search needs
 
-mul-fields-4 : tie.Need-mul-fields-4 Inv-loop μ-loop
-mul-fields-4 c = search needs
+mul-columns-4 : tie.Need-mul-columns-4 Inv-loop μ-loop
+mul-columns-4 c = search needs
 
-array-write-fields-4 : tie.Need-array-write-fields-4 Inv-loop μ-loop
-array-write-fields-4 c = search needs
+array-write-columns-4 : tie.Need-array-write-columns-4 Inv-loop μ-loop
+array-write-columns-4 c = search needs
 
-add-fields-4 : tie.Need-add-fields-4 Inv-loop μ-loop
-add-fields-4 c = search needs
+add-columns-4 : tie.Need-add-columns-4 Inv-loop μ-loop
+add-columns-4 c = search needs
 
-mul-fields-5 : tie.Need-mul-fields-5 Inv-loop μ-loop
-mul-fields-5 c = search needs
+mul-columns-5 : tie.Need-mul-columns-5 Inv-loop μ-loop
+mul-columns-5 c = search needs
 
-array-write-fields-5 : tie.Need-array-write-fields-5 Inv-loop μ-loop
-array-write-fields-5 c = search needs
+array-write-columns-5 : tie.Need-array-write-columns-5 Inv-loop μ-loop
+array-write-columns-5 c = search needs
 
-add-fields-5 : tie.Need-add-fields-5 Inv-loop μ-loop
-add-fields-5 c = search needs
+add-columns-5 : tie.Need-add-columns-5 Inv-loop μ-loop
+add-columns-5 c = search needs
 
-mul-fields-6 : tie.Need-mul-fields-6 Inv-loop μ-loop
-mul-fields-6 c = search needs
+mul-columns-6 : tie.Need-mul-columns-6 Inv-loop μ-loop
+mul-columns-6 c = search needs
 
-array-write-fields-6 : tie.Need-array-write-fields-6 Inv-loop μ-loop
-array-write-fields-6 c = search needs
+array-write-columns-6 : tie.Need-array-write-columns-6 Inv-loop μ-loop
+array-write-columns-6 c = search needs
 
-add-fields-6 : tie.Need-add-fields-6 Inv-loop μ-loop
-add-fields-6 c = search needs
+add-columns-6 : tie.Need-add-columns-6 Inv-loop μ-loop
+add-columns-6 c = search needs
 
-mul-fields-7 : tie.Need-mul-fields-7 Inv-loop μ-loop
-mul-fields-7 c = search needs
+mul-columns-7 : tie.Need-mul-columns-7 Inv-loop μ-loop
+mul-columns-7 c = search needs
 
-array-write-fields-7 : tie.Need-array-write-fields-7 Inv-loop μ-loop
-array-write-fields-7 c = search needs
+array-write-columns-7 : tie.Need-array-write-columns-7 Inv-loop μ-loop
+array-write-columns-7 c = search needs
 
-add-fields-7 : tie.Need-add-fields-7 Inv-loop μ-loop
-add-fields-7 c = search needs
+add-columns-7 : tie.Need-add-columns-7 Inv-loop μ-loop
+add-columns-7 c = search needs
 
-mul-fields-8 : tie.Need-mul-fields-8 Inv-loop μ-loop
-mul-fields-8 c = search needs
+mul-columns-8 : tie.Need-mul-columns-8 Inv-loop μ-loop
+mul-columns-8 c = search needs
 
-array-write-fields-8 : tie.Need-array-write-fields-8 Inv-loop μ-loop
-array-write-fields-8 c = search needs
+array-write-columns-8 : tie.Need-array-write-columns-8 Inv-loop μ-loop
+array-write-columns-8 c = search needs
 
-add-fields-8 : tie.Need-add-fields-8 Inv-loop μ-loop
-add-fields-8 c = search needs
+add-columns-8 : tie.Need-add-columns-8 Inv-loop μ-loop
+add-columns-8 c = search needs
 
-mul-fields-9 : tie.Need-mul-fields-9 Inv-loop μ-loop
-mul-fields-9 c = search needs
+mul-columns-9 : tie.Need-mul-columns-9 Inv-loop μ-loop
+mul-columns-9 c = search needs
 
-array-write-fields-9 : tie.Need-array-write-fields-9 Inv-loop μ-loop
-array-write-fields-9 c = search needs
+array-write-columns-9 : tie.Need-array-write-columns-9 Inv-loop μ-loop
+array-write-columns-9 c = search needs
 
 add-i : tie.Need-add-i Inv-loop μ-loop
 add-i c = search needs
@@ -140,7 +139,7 @@ loop-again c =
     let rs = records (counted .before .before .before .args .image .now) in
     let own = c .before .period-at in
     let here = c .task-at .ensures ∙ ap (λ (t : ℕ). taskOf t (getD (tasks rs) (s .i) [])) (own .ensures) in
-    (omega arith, omega arith, omega arith, fields-more rs (s .i) (s .fields) (c .task-at .result) (own .result) (omega arith) (s .inv .3) here (own .ensures))
+    (omega arith, omega arith, omega arith, columns-more rs (s .i) (s .columns) (c .task-at .result) (own .result) (omega arith) (s .inv .3) here (own .ensures))
 
 returns : tie.Need-returns Inv-loop μ-loop
 returns c =
@@ -151,7 +150,7 @@ returns c =
     let all : s .i ≡ taskCount rs = omega arith in
     record {
       count = count;
-      columns = subst (λ (n : ℕ). FieldsTo rs n (s .fields)) all (s .inv .3);
+      columns = subst (λ (n : ℕ). ColumnsTo rs n (s .columns)) all (s .inv .3);
     }
 
 pub read-tasks-spec : {M : Type 1} → statement M
@@ -165,32 +164,32 @@ read-tasks-spec =
     loop-holds
     period-at-requires
     task-at-requires
-    mul-fields
-    array-write-fields
-    add-fields
-    mul-fields-2
-    array-write-fields-2
-    add-fields-2
-    mul-fields-3
-    array-write-fields-3
-    add-fields-3
-    mul-fields-4
-    array-write-fields-4
-    add-fields-4
-    mul-fields-5
-    array-write-fields-5
-    add-fields-5
-    mul-fields-6
-    array-write-fields-6
-    add-fields-6
-    mul-fields-7
-    array-write-fields-7
-    add-fields-7
-    mul-fields-8
-    array-write-fields-8
-    add-fields-8
-    mul-fields-9
-    array-write-fields-9
+    mul-columns
+    array-write-columns
+    add-columns
+    mul-columns-2
+    array-write-columns-2
+    add-columns-2
+    mul-columns-3
+    array-write-columns-3
+    add-columns-3
+    mul-columns-4
+    array-write-columns-4
+    add-columns-4
+    mul-columns-5
+    array-write-columns-5
+    add-columns-5
+    mul-columns-6
+    array-write-columns-6
+    add-columns-6
+    mul-columns-7
+    array-write-columns-7
+    add-columns-7
+    mul-columns-8
+    array-write-columns-8
+    add-columns-8
+    mul-columns-9
+    array-write-columns-9
     add-i
     loop-less
     loop-again

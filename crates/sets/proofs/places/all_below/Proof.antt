@@ -1,4 +1,4 @@
--- A power-fits of 2 less 1 has exactly the bits below it.
+-- A power of 2 less 1 has exactly the bits below it.
 use lib.Pow.{pow-pos}
 use Rattle.rules.proofs.Bits.{power-fits}
 use Rattle.sets.proofs.Sets.{below-has}

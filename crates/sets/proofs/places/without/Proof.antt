@@ -1,4 +1,4 @@
--- A set place is one power-fits of 2 in the number, and taking that away changes no other bit.
+-- A set place is one power of 2 in the number, and taking that away changes no other bit.
 use Prim.Native.Nat.{_/_, _%_, _^_}
 use borrow.Author.Tests.{eqb-true}
 use Rattle.rules.proofs.Bits.{power-fits, bit-enough}

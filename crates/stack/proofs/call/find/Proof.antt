@@ -3,13 +3,15 @@ use mathlib.Core.Path.{_≡_}
 use lib.ListN.{length}
 use Rattle.rules.specs.Blocks.{records}
 use Rattle.rules.specs.Records.{transactions}
-use Rattle.preempt.specs.Tasks.{transactionsIn, prioritiesIn, sizesIn, thresholdsIn}
+use Rattle.preempt.specs.Tasks.{transactionColumn, priorityColumn, sizeColumn, thresholdColumn}
 use Rattle.preempt.proofs.Accepted.{shape}
+use Rattle.preempt.proofs.Reading.{few-read, part-long}
 use Rattle.stack.specs.Order.{Falling}
 use Rattle.stack.specs.Related.{RelatedRows}
 use Rattle.stack.specs.Figures.{FoundOver}
 use Rattle.stack.proofs.Figures.{rows-same, found-for}
-use Rattle.stack.proofs.Readying.{few-read, priorities-long, thresholds-long, numbers-long, rows-rising, rows-ready}
+use Rattle.stack.proofs.Readying.{rows-rising, rows-ready}
+use native.Mathlib.Omega.{arith}
 use borrow.Author.Needs.{needs}
 use Rattle.stack.proofs.call.find.Statement.{statement}
 use Rattle.stack.proofs.call.find.Tie as tie
@@ -33,11 +35,11 @@ related-rows-requires c κs =
     let image = start .args .image .now in
     let slices = known .shared-slice-known .given in
     let count = start .args .count in
-    let fields = start .args .fields .now in
+    let columns = start .args .columns .now in
     let read = start .pre .1 .0 in
-    let thresholds = thresholds-long image slices (start .pre .0) count fields read in
-    let priorities = priorities-long image slices (start .pre .0) count fields read in
-    (few-read image slices (start .pre .0) count fields read, rw (c .thresholds-of .ensures) thresholds, rw (c .before .before .before .priorities-of .ensures) priorities, start .pre .1 .1)
+    let thresholds = part-long 7 columns (omega arith) (read .columns .whole) in
+    let priorities = part-long 2 columns (omega arith) (read .columns .whole) in
+    (few-read (records image) count columns (shape image slices (start .pre .0)) read, rw (c .thresholds-of .ensures) thresholds, rw (c .before .before .before .priorities-of .ensures) priorities, start .pre .1 .1)
 
 by-falling-priority-requires : tie.Need-by-falling-priority-requires
 by-falling-priority-requires c κs =
@@ -46,10 +48,10 @@ by-falling-priority-requires c κs =
     let image = start .args .image .now in
     let slices = known .shared-slice-known .given in
     let count = start .args .count in
-    let fields = start .args .fields .now in
+    let columns = start .args .columns .now in
     let read = start .pre .1 .0 in
-    let priorities = priorities-long image slices (start .pre .0) count fields read in
-    (few-read image slices (start .pre .0) count fields read, rw (c .before .before .before .before .priorities-of .ensures) priorities)
+    let priorities = part-long 2 columns (omega arith) (read .columns .whole) in
+    (few-read (records image) count columns (shape image slices (start .pre .0)) read, rw (c .before .before .before .before .priorities-of .ensures) priorities)
 
 slice-aggregate-find-over : tie.Need-slice-aggregate-find-over
 slice-aggregate-find-over c = search needs
@@ -65,19 +67,19 @@ find-over-requires c κs =
     let slices = known .shared-slice-known .given in
     let right = start .pre .0 in
     let count = start .args .count in
-    let fields = start .args .fields .now in
+    let columns = start .args .columns .now in
     let read = start .pre .1 .0 in
     let lent = start .args .map .now in
     let priorities = c .before .before .before .before .before .before .before .priorities-of .ensures in
     let rows = c .before .before .before .related-rows in
     let order = c .before .before .by-falling-priority in
-    let related : RelatedRows count (thresholdsIn fields) (prioritiesIn fields) lent (rows .result) = rw (← c .before .before .before .before .thresholds-of .ensures, ← priorities) (rows .ensures) in
-    let falling : Falling count (prioritiesIn fields) (order .result) = rw (← priorities) (order .ensures) in
+    let related : RelatedRows count (thresholdColumn columns) (priorityColumn columns) lent (rows .result) = rw (← c .before .before .before .before .thresholds-of .ensures, ← priorities) (rows .ensures) in
+    let falling : Falling count (priorityColumn columns) (order .result) = rw (← priorities) (order .ensures) in
     let long : length (order .result) ≡ 64 = search needs in (
       right,
       (
-        rw (c .before .before .before .before .before .before .sizes-of .ensures) (rows-ready image slices right count fields read lent (rows .result) (order .result) long related falling),
-        (rw priorities (rows-rising image slices right count fields read lent (rows .result) related), rw (c .before .before .before .before .before .transactions-of .ensures) (numbers-long image slices right count fields read)),
+        rw (c .before .before .before .before .before .before .sizes-of .ensures) (rows-ready image slices right count columns read lent (rows .result) (order .result) long related falling),
+        (rw priorities (rows-rising image slices right count columns read lent (rows .result) related), rw (c .before .before .before .before .before .transactions-of .ensures) (part-long 1 columns (omega arith) (read .columns .whole))),
       ),
     )
 
@@ -88,15 +90,15 @@ returns c =
     let image = start .args .image .now in
     let right = start .pre .0 in
     let count = start .args .count in
-    let fields = start .args .fields .now in
+    let columns = start .args .columns .now in
     let read = start .pre .1 .0 in
     let lent = start .args .map .now in
     let whole = shape image (known .shared-slice-known .given) right in
     let priorities = c .before .before .before .before .before .before .before .before .priorities-of .ensures in
     let rows = c .before .before .before .before .related-rows in
-    let related : RelatedRows count (thresholdsIn fields) (prioritiesIn fields) lent (rows .result) = rw (← c .before .before .before .before .before .thresholds-of .ensures, ← priorities) (rows .ensures) in
-    let over : FoundOver count (rows .result) (sizesIn fields) (prioritiesIn fields) (transactionsIn fields) (transactions (records image)) (c .find-over .result) = rw (← c .before .before .before .before .before .before .before .sizes-of .ensures, ← priorities, ← c .before .before .before .before .before .before .transactions-of .ensures) (c .find-over .ensures) in
-    found-for (records image) lent count fields whole read (rows .result) (c .find-over .result) (rows-same (records image) lent count fields whole read (rows .result) (related .cells)) over
+    let related : RelatedRows count (thresholdColumn columns) (priorityColumn columns) lent (rows .result) = rw (← c .before .before .before .before .before .thresholds-of .ensures, ← priorities) (rows .ensures) in
+    let over : FoundOver count (rows .result) (sizeColumn columns) (priorityColumn columns) (transactionColumn columns) (transactions (records image)) (c .find-over .result) = rw (← c .before .before .before .before .before .before .before .sizes-of .ensures, ← priorities, ← c .before .before .before .before .before .before .transactions-of .ensures) (c .find-over .ensures) in
+    found-for (records image) lent count columns whole read (rows .result) (c .find-over .result) (rows-same (records image) lent count columns whole read (rows .result) (related .cells)) over
 
 pub find-spec : {M : Type 1} → statement M
 find-spec =

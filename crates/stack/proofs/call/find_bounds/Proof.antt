@@ -12,8 +12,9 @@ use Rattle.rules.specs.Refusals.{accepted, tableVerdict}
 use Rattle.rules.specs.Chains.{idAt}
 use Rattle.rules.specs.Calls.{over, BoundCall, boundRefusal}
 use Rattle.preempt.proofs.Accepted.{shape}
+use Rattle.preempt.proofs.Reading.{few-read, part-long}
 use Rattle.stack.proofs.Figures.{ids-same}
-use Rattle.stack.proofs.Readying.{few-read, ids-long, ids-small}
+use Rattle.stack.proofs.Readying.{ids-small}
 use Rattle.stack.proofs.Calling.{by-table, by-short, answered, places-below}
 use native.Mathlib.Omega.{arith}
 use borrow.Author.Needs.{needs}
@@ -84,8 +85,8 @@ write-ids-requires c κs =
     let long : length (found .result .places) ≡ 64 = search needs in
     let named = c .before .ids-of .ensures in
     let room = read .before .if3 .left in (
-      (long, found .ensures .room, rw named (ids-long image known right (tasks .count) (tasks .fields) (read .read-tasks .ensures)), room),
-      (λ k h. places-below image lent ids right (read .before .before .if2 .left) room (found .result) (found .ensures) (shape image known right .few-tasks) k long h, rw named (ids-small image known right (tasks .count) (tasks .fields) (read .read-tasks .ensures))),
+      (long, found .ensures .room, rw named (part-long 0 (tasks .columns) (omega arith) (read .read-tasks .ensures .columns .whole)), room),
+      (λ k h. places-below image lent ids right (read .before .before .if2 .left) room (found .result) (found .ensures) (shape image known right .few-tasks) k long h, rw named (ids-small image known right (tasks .count) (tasks .columns) (read .read-tasks .ensures))),
     )
 
 cast-t18 : tie.Need-cast-t18
@@ -96,7 +97,7 @@ cast-t18 c =
     let known = read .before .before .before .before .before .before .before .before .shared-slice-known .given in
     let right = sound (read .before .before .before) in
     let tasks = read .read-tasks .result in
-    omega (arith, few-read image known right (tasks .count) (tasks .fields) (read .read-tasks .ensures))
+    omega (arith, few-read (records image) (tasks .count) (tasks .columns) (shape image known right) (read .read-tasks .ensures))
 
 cast-t19 : tie.Need-cast-t19
 cast-t19 c = search needs
@@ -117,7 +118,7 @@ returns-4 c =
     let found = c .before .before .before .before .before .before .before .before .find in
     let whole = shape image known right in
     let long : length (found .result .places) ≡ 64 = search needs in
-    let named : (λ (i : ℕ). getD (c .before .before .before .before .ids-of .result .now) i 0) ≡ idAt (records image) = rw (c .before .before .before .before .ids-of .ensures) (ids-same (records image) lent (tasks .count) (tasks .fields) whole (read .read-tasks .ensures)) in
+    let named : (λ (i : ℕ). getD (c .before .before .before .before .ids-of .result .now) i 0) ≡ idAt (records image) = rw (c .before .before .before .before .ids-of .ensures) (ids-same (records image) lent (tasks .count) (tasks .columns) whole (read .read-tasks .ensures)) in
     let written = ap (λ (f : ℕ → ℕ). over (map f (take (found .result .length) (found .result .places))) ids) named in
     answered image lent ids right (read .before .before .if2 .left) (read .before .if3 .left) (found .result) (found .ensures) _ (tasks .count) (read .read-tasks .ensures .count) long (c .before .before .write-ids .ensures ∙ written)
 

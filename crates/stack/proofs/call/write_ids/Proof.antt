@@ -21,20 +21,20 @@ abbrev μ-loop : tie.MeasureT-loop
 loop-holds : tie.Need-loop-holds Inv-loop μ-loop
 loop-holds c = search needs
 
-array-read-wide : tie.Need-array-read-wide Inv-loop μ-loop
-array-read-wide c = search needs
+array-read-index-of : tie.Need-array-read-index-of Inv-loop μ-loop
+array-read-index-of c = search needs
 
-wide-requires : tie.Need-wide-requires Inv-loop μ-loop
-wide-requires c κs = search needs
+index-of-requires : tie.Need-index-of-requires Inv-loop μ-loop
+index-of-requires c κs = search needs
 
 mul-ids : tie.Need-mul-ids Inv-loop μ-loop
-mul-ids c = omega (arith, c .wide .ensures, c .before .before .before .before .before .pre .1 .0 (c .before .before .loop .k) (c .before .loop-test .taken))
+mul-ids c = omega (arith, c .index-of .ensures, c .before .before .before .before .before .pre .1 .0 (c .before .before .loop .k) (c .before .loop-test .taken))
 
 shared-slice-read-ids : tie.Need-shared-slice-read-ids Inv-loop μ-loop
-shared-slice-read-ids c = omega (arith, c .before .wide .ensures, c .before .before .before .before .before .before .pre .1 .0 (c .before .before .before .loop .k) (c .before .before .loop-test .taken), c .before .before .before .before .before .before .pre .0 .2)
+shared-slice-read-ids c = omega (arith, c .before .index-of .ensures, c .before .before .before .before .before .before .pre .1 .0 (c .before .before .before .loop .k) (c .before .before .loop-test .taken), c .before .before .before .before .before .before .pre .0 .2)
 
 cast-ids : tie.Need-cast-ids Inv-loop μ-loop
-cast-ids c = omega (arith, c .before .before .before .before .before .before .pre .1 .1 (c .before .wide .result))
+cast-ids c = omega (arith, c .before .before .before .before .before .before .pre .1 .1 (c .before .index-of .result))
 
 mul-ids-2 : tie.Need-mul-ids-2 Inv-loop μ-loop
 mul-ids-2 c = search needs
@@ -54,7 +54,7 @@ loop-again c =
     let k = c .before .before .before .loop .k in
     let given = c .before .before .before .before .before .before .pre .0 in
     let number : ℕ → ℕ = λ i. getD (a .all .now) i 0 in
-    (omega (arith, c .before .before .loop-test .taken), length-set (c .before .before .before .loop .ids) k (number (c .before .wide .result)) ∙ c .before .before .before .loop .inv .1, ap (λ (l : List ℕ). set l k (number (c .before .wide .result))) (c .before .before .before .loop .inv .2) ∙ mapped-next number (a .t1) (a .ids .now) k (number (c .before .wide .result)) (omega (arith, c .before .before .loop-test .taken)) (omega (arith, c .before .before .loop-test .taken)) (ap number (c .before .wide .ensures)))
+    (omega (arith, c .before .before .loop-test .taken), length-set (c .before .before .before .loop .ids) k (number (c .before .index-of .result)) ∙ c .before .before .before .loop .inv .1, ap (λ (l : List ℕ). set l k (number (c .before .index-of .result))) (c .before .before .before .loop .inv .2) ∙ mapped-next number (a .t1) (a .ids .now) k (number (c .before .index-of .result)) (omega (arith, c .before .before .loop-test .taken)) (omega (arith, c .before .before .loop-test .taken)) (ap number (c .before .index-of .ensures)))
 
 same-length : tie.Need-same-length Inv-loop μ-loop
 same-length c = search needs
@@ -71,8 +71,8 @@ write-ids-spec =
     Inv-loop
     μ-loop
     loop-holds
-    array-read-wide
-    wide-requires
+    array-read-index-of
+    index-of-requires
     mul-ids
     shared-slice-read-ids
     cast-ids

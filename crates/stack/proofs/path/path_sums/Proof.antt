@@ -21,21 +21,21 @@ left c =
     underway-left (start .pre .0) so-far (c .loop-test .taken) (omega (arith, so-far .within, start .fits .cover .fits))
 
 -- the place that stands next in the order is one of the places
-place : (c : tie.After-wide Inv-loop μ-loop) → (c .wide .result < c .before .before .before .before .before .before .before .args .count) × (c .wide .result < 64)
+place : (c : tie.After-index-of Inv-loop μ-loop) → (c .index-of .result < c .before .before .before .before .before .before .before .args .count) × (c .index-of .result < 64)
 place c =
     let start = c .before .before .before .before .before .before .before in
-    omega (arith, c .wide .ensures, start .pre .0 .arrays .few, start .pre .0 .places (c .before .before .before .loop .k) (left (c .before .before)))
+    omega (arith, c .index-of .ensures, start .pre .0 .arrays .few, start .pre .0 .places (c .before .before .before .loop .k) (left (c .before .before)))
 
 loop-holds : tie.Need-loop-holds Inv-loop μ-loop
 loop-holds c =
     let start = c .before .before .before in
     underway-none (start .pre .0) (omega (arith, start .good .0)) (start .pre .1)
 
-shared-slice-read-wide : tie.Need-shared-slice-read-wide Inv-loop μ-loop
-shared-slice-read-wide c = omega (arith, left (c .before), c .before .before .before .before .before .before .pre .0 .arrays .few, c .before .before .before .before .before .before .pre .0 .order-count)
+shared-slice-read-index-of : tie.Need-shared-slice-read-index-of Inv-loop μ-loop
+shared-slice-read-index-of c = omega (arith, left (c .before), c .before .before .before .before .before .before .pre .0 .arrays .few, c .before .before .before .before .before .before .pre .0 .order-count)
 
-wide-requires : tie.Need-wide-requires Inv-loop μ-loop
-wide-requires c κs = search needs
+index-of-requires : tie.Need-index-of-requires Inv-loop μ-loop
+index-of-requires c κs = search needs
 
 add-k : tie.Need-add-k Inv-loop μ-loop
 add-k c = search needs
@@ -68,9 +68,9 @@ add-sums c =
     omega (
       arith,
       ready .arrays .few,
-      ready .arrays .light (c .before .before .before .before .before .before .before .wide .result) (place (c .before .before .before .before .before .before .before) .0),
+      ready .arrays .light (c .before .before .before .before .before .before .before .index-of .result) (place (c .before .before .before .before .before .before .before) .0),
       so-far .count,
-      underway-light ready so-far (left (c .before .before .before .before .before .before .before .before .before)) (rw (c .before .before .before .before .before .before .before .wide .ensures) at (c .before .before .before .shared .ensures)) (c .largest-at .ensures),
+      underway-light ready so-far (left (c .before .before .before .before .before .before .before .before .before)) (rw (c .before .before .before .before .before .before .before .index-of .ensures) at (c .before .before .before .shared .ensures)) (c .largest-at .ensures),
     )
 
 mul-sums-2 : tie.Need-mul-sums-2 Inv-loop μ-loop
@@ -88,12 +88,12 @@ loop-less c = omega (arith, left (c .before .before .before .before .before .bef
 loop-again : tie.Need-loop-again Inv-loop μ-loop
 loop-again c =
     let start = c .before .before .before .before .before .before .before .before .before .before .before .before .before .before .before in
-    rw (c .before .before .before .before .before .before .before .before .wide .ensures)
+    rw (c .before .before .before .before .before .before .before .before .index-of .ensures)
     (underway-take (start .pre .0) (c .before .before .before .before .before .before .before .before .before .before .before .loop .inv) (left (c .before .before .before .before .before .before .before .before .before .before))
-    (rw (c .before .before .before .before .before .before .before .before .wide .ensures) at (sym (c .before .before .before .before .before .before .before .is-set .ensures) ∙ c .before .before .before .before .before .before .if1 .taken))
-    (rw (c .before .before .before .before .before .before .before .before .wide .ensures) at (c .before .before .before .before .shared .ensures))
+    (rw (c .before .before .before .before .before .before .before .before .index-of .ensures) at (sym (c .before .before .before .before .before .before .before .is-set .ensures) ∙ c .before .before .before .before .before .before .if1 .taken))
+    (rw (c .before .before .before .before .before .before .before .before .index-of .ensures) at (c .before .before .before .before .shared .ensures))
     (c .before .largest-at .ensures)
-    (rw (c .before .before .before .before .before .before .before .before .wide .ensures) at (c .without .ensures)))
+    (rw (c .before .before .before .before .before .before .before .before .index-of .ensures) at (c .without .ensures)))
 
 loop-less-2 : tie.Need-loop-less-2 Inv-loop μ-loop
 loop-less-2 c = omega (arith, left (c .before .before .before .before))
@@ -102,7 +102,7 @@ loop-again-2 : tie.Need-loop-again-2 Inv-loop μ-loop
 loop-again-2 c =
     let start = c .before .before .before .before .before .before .before .before .before in
     underway-skip (start .pre .0) (c .before .before .before .before .before .loop .inv) (left (c .before .before .before .before))
-    (rw (c .before .before .wide .ensures) at (sym (c .before .is-set .ensures) ∙ c .if1 .left))
+    (rw (c .before .before .index-of .ensures) at (sym (c .before .is-set .ensures) ∙ c .if1 .left))
 
 returns : tie.Need-returns Inv-loop μ-loop
 returns c = underway-all (c .before .loop .inv) (omega (arith, c .loop-test .left))
@@ -114,8 +114,8 @@ path-sums-spec =
     Inv-loop
     μ-loop
     loop-holds
-    shared-slice-read-wide
-    wide-requires
+    shared-slice-read-index-of
+    index-of-requires
     add-k
     is-set-requires
     mul-shared

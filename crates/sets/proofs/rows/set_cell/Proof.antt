@@ -3,8 +3,8 @@ use Prim.Native.Nat.{ℕ}
 use mathlib.Core.Path.{ap}
 use lib.ListN.{set}
 use borrow.Author.Needs.{needs}
-use Rattle.sets.proofs.rows.mark.Statement.{statement}
-use Rattle.sets.proofs.rows.mark.Tie as tie
+use Rattle.sets.proofs.rows.set_cell.Statement.{statement}
+use Rattle.sets.proofs.rows.set_cell.Tie as tie
 
 mul-with-bit : tie.Need-mul-with-bit
 mul-with-bit c = search needs
@@ -27,8 +27,8 @@ same-length c = search needs
 returns : tie.Need-returns
 returns c = ap (λ (row : ℕ). set (c .before .before .before .args .rows .now) (c .before .before .before .args .i) row) (c .with-bit .ensures)
 
-pub mark-spec : {M : Type 1} → statement M
-mark-spec =
+pub set-cell-spec : {M : Type 1} → statement M
+set-cell-spec =
     tie.close
     (tie.spec
     mul-with-bit

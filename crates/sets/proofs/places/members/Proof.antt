@@ -4,8 +4,8 @@ use Rattle.sets.specs.Bits.{hasNumber}
 use Rattle.sets.proofs.Choosing.{Chosen, chosen-none, chosen-more, chosen-all}
 use native.Mathlib.Omega.{arith}
 use borrow.Author.Needs.{needs}
-use Rattle.sets.proofs.bits.members.Statement.{statement}
-use Rattle.sets.proofs.bits.members.Tie as tie
+use Rattle.sets.proofs.places.members.Statement.{statement}
+use Rattle.sets.proofs.places.members.Tie as tie
 
 abbrev Inv-loop : tie.InvT-loop
 Inv-loop numbers count number set₀ place₀ set place = Chosen (hasNumber numbers number) count place set

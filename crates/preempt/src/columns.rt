@@ -1,0 +1,91 @@
+// What was read of the tasks, in columns by their places.
+ghost use mathlib.Core.Path.{_≡_};
+ghost use Prim.Native.Nat.{_<_};
+ghost use Rattle.preempt.specs.Tasks.{taskRead, periodRead, idColumn, transactionColumn, priorityColumn, sizeColumn, thresholdColumn};
+use rules::Task;
+
+// Nine columns of 64 numbers, one behind the other, a column for each field: first the ids, and last the periods of the tasks'
+// transactions; 0 beyond the tasks.
+pub type Columns = [u32; 576];
+
+// Where the columns behind the ids start.
+pub const TRANSACTIONS: usize = 64;
+
+pub const PRIORITIES: usize = 128;
+
+pub const OFFSETS: usize = 192;
+
+pub const JITTERS: usize = 256;
+
+pub const RESPONSES: usize = 320;
+
+pub const SIZES: usize = 384;
+
+pub const THRESHOLDS: usize = 448;
+
+pub const PERIODS: usize = 512;
+
+// The task at a place.
+pub fn task_read(columns: &Columns, i: usize) -> Task
+    requires { ⌜ i < 64 ⌝ }
+    ensures { λ r. ⌜ r ≡ taskRead (now (columns .entry)) i ⌝ }
+{
+    Task {
+        id: columns[i],
+        transaction: columns[TRANSACTIONS + i],
+        priority: columns[PRIORITIES + i],
+        offset: columns[OFFSETS + i],
+        jitter: columns[JITTERS + i],
+        response: columns[RESPONSES + i],
+        size: columns[SIZES + i],
+        threshold: columns[THRESHOLDS + i],
+    }
+}
+
+// The period of the transaction of the task at a place.
+pub fn period_read(columns: &Columns, i: usize) -> u32
+    requires { ⌜ i < 64 ⌝ }
+    ensures { λ r. ⌜ r ≡ periodRead (now (columns .entry)) i ⌝ }
+{
+    columns[PERIODS + i]
+}
+
+// The ids of the tasks.
+pub fn ids_of(columns: &Columns) -> &[u32]
+    ensures { λ r. ⌜ now r ≡ idColumn (now (columns .entry)) ⌝ }
+{
+    let all = &columns[..];
+    &all[0..TRANSACTIONS]
+}
+
+// The numbers of their transactions.
+pub fn transactions_of(columns: &Columns) -> &[u32]
+    ensures { λ r. ⌜ now r ≡ transactionColumn (now (columns .entry)) ⌝ }
+{
+    let all = &columns[..];
+    &all[TRANSACTIONS..PRIORITIES]
+}
+
+// Their priorities.
+pub fn priorities_of(columns: &Columns) -> &[u32]
+    ensures { λ r. ⌜ now r ≡ priorityColumn (now (columns .entry)) ⌝ }
+{
+    let all = &columns[..];
+    &all[PRIORITIES..OFFSETS]
+}
+
+// Their sizes.
+pub fn sizes_of(columns: &Columns) -> &[u32]
+    ensures { λ r. ⌜ now r ≡ sizeColumn (now (columns .entry)) ⌝ }
+{
+    let all = &columns[..];
+    &all[SIZES..THRESHOLDS]
+}
+
+// Their thresholds.
+pub fn thresholds_of(columns: &Columns) -> &[u32]
+    ensures { λ r. ⌜ now r ≡ thresholdColumn (now (columns .entry)) ⌝ }
+{
+    let all = &columns[..];
+    &all[THRESHOLDS..PERIODS]
+}
