@@ -1,4 +1,5 @@
-// Refusal 7: too many of a kind. In a patch those taken out and those put in are counted apart.
+// How many records of a kind there are: for refusal 7 by a tally, in a patch those taken out and those put in apart, and in
+// records that are in order by where the kinds start.
 ghost use mathlib.Core.Path.{_≡_};
 ghost use mathlib.Core.Bool.{true};
 ghost use Prim.Native.Nat.{_≤_, _<_};
@@ -45,8 +46,8 @@ pub fn tally(image: &[u8]) -> [u32; 8]
     counts
 }
 
-// The number of the first record that is of at least this kind, or the number of records: the first of all for kind 1, the
-// number of records above kind 3, and between them by halving, as kinds do not fall.
+// The number of the first record of at least this kind, or of all records where there is none. No kind is below 1 or above 3;
+// between them it is looked for by halving, as kinds do not fall.
 fn kind_start(image: &[u8], kind: u32) -> usize
     requires { ⌜ accepted (recordsVerdict Table (records (now image))) ≡ true ⌝ }
     requires { ⌜ HoldsRecords (now image) ⌝ }

@@ -1,4 +1,5 @@
--- Each kind is 1, 2 or 3. Between them the loop keeps that all records below `low` are of a lower kind and that the one at `high` is not; the middle halves what is between.
+-- Each kind is 1, 2 or 3. For 2 and 3 the loop keeps that all records below `low` are of a lower kind and that the one at `high`
+-- is not; the middle halves what is between.
 use Prim.Native.Nat.{ℕ, _+_, _-_, _/_, _≤_, _<_}
 use mathlib.Core.Path.{_≡_, ap, sym, _∙_}
 use mathlib.Core.List.{List, []}
@@ -28,7 +29,7 @@ Inv-loop image kind count low₀ high₀ low high = (low ≤ high) × (high ≤ 
 abbrev μ-loop : tie.MeasureT-loop
 μ-loop image kind count low₀ high₀ low high = high - low
 
--- each kind is 1, 2 or 3
+-- what is known of kinds
 known : (image : List ℕ) → accepted (recordsVerdict Table (records image)) ≡ true → Known (records image)
 known image right = faultless-known (records image) (faultless-of Table (records image) right)
 
