@@ -1,17 +1,10 @@
 // Equations (7) and (8) of the paper, for two tasks.
 ghost use mathlib.Core.Path.{_≡_};
-ghost use Prim.Native.Nat.{_-_};
 ghost use Rattle.rules.specs.Preempt.{distance as Preempt·distance, timing, reason, mayPreempt};
 ghost use Rattle.rules.specs.Reasons.{told};
 use rules::Reason;
 use rules::Task;
-
-// The difference of two numbers, or 0 where the second is larger.
-pub fn excess(a: u32, b: u32) -> u32
-    ensures { λ r. ⌜ r ≡ a - b ⌝ }
-{
-    if a < b { 0 } else { a - b }
-}
+use sets::numbers::excess;
 
 // The distance from the more urgent task's offset to the less urgent one's, by equation (7): the paper's psi, in the two cases of its proof of Lemma 2.
 pub fn distance(period: u32, lower: u32, upper: u32) -> u32
