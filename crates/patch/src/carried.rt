@@ -15,8 +15,9 @@ use crate::touched::count_places;
 use crate::touched::touched_tasks;
 use preempt::barred::read_barred;
 use preempt::columns::Columns;
-use preempt::columns::ids_of;
-use preempt::columns::transactions_of;
+use preempt::columns::IDS;
+use preempt::columns::TRANSACTIONS;
+use preempt::columns::column_of;
 use preempt::map::is_decided;
 use preempt::map::row;
 use preempt::tasks::read_tasks;
@@ -165,9 +166,14 @@ pub fn carry_map(base: &[u8], patch: &[u8], image: &[u8], rows: &[u64]) -> Carri
     ensures { λ r. ⌜ MapCarried (records (now (base .entry))) (records (now (patch .entry))) (now (rows .entry)) r ⌝ }
 {
     let tasks = read_tasks(image);
-    let ids = ids_of(&tasks.columns);
+    let ids = column_of(&tasks.columns, IDS);
     let barred = read_barred(image, ids, tasks.count);
-    let touched = touched_tasks(patch, ids, transactions_of(&tasks.columns), tasks.count);
+    let touched = touched_tasks(
+        patch,
+        ids,
+        column_of(&tasks.columns, TRANSACTIONS),
+        tasks.count,
+    );
     let old = old_places(base, ids, tasks.count);
     let map = carried_rows(&tasks.columns, &barred, tasks.count, touched, &old, rows);
     Carried {

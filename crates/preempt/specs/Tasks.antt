@@ -10,9 +10,13 @@ use Rattle.rules.specs.Records.{taskCount, taskAt, periodAt}
 use Rattle.rules.specs.Preempt.{mayPreempt, barred, bitAt, mapFrom}
 use Rattle.sets.specs.Bits.{column, withCell}
 
--- column m of those that stand one behind the other, 64 numbers each
+-- the column of 64 numbers that starts at a number
+abbrev pub columnFrom : ℕ → List ℕ → List ℕ
+columnFrom start columns = take 64 (drop start columns)
+
+-- column m of those that stand one behind the other
 abbrev pub columnIn : ℕ → List ℕ → List ℕ
-columnIn m columns = take 64 (drop (64 * m) columns)
+columnIn m = columnFrom (64 * m)
 
 -- what each of them holds, by the places of the tasks
 abbrev pub idColumn : List ℕ → List ℕ

@@ -1,14 +1,16 @@
 // What was read of the tasks, in columns by their places.
 ghost use mathlib.Core.Path.{_≡_};
-ghost use Prim.Native.Nat.{_<_};
-ghost use Rattle.preempt.specs.Tasks.{taskRead, periodRead, idColumn, transactionColumn, priorityColumn, sizeColumn, thresholdColumn};
+ghost use Prim.Native.Nat.{_≤_, _<_};
+ghost use Rattle.preempt.specs.Tasks.{columnFrom, taskRead, periodRead};
 use rules::Task;
 
 // Nine columns of 64 numbers, one behind the other, a column for each field: first the ids, and last the periods of the tasks'
 // transactions; 0 beyond the tasks.
 pub type Columns = [u32; 576];
 
-// Where the columns behind the ids start.
+// Where each column starts.
+pub const IDS: usize = 0;
+
 pub const TRANSACTIONS: usize = 64;
 
 pub const PRIORITIES: usize = 128;
@@ -50,42 +52,11 @@ pub fn period_read(columns: &Columns, i: usize) -> u32
     columns[PERIODS + i]
 }
 
-// The ids of the tasks.
-pub fn ids_of(columns: &Columns) -> &[u32]
-    ensures { λ r. ⌜ now r ≡ idColumn (now (columns .entry)) ⌝ }
+// The column that starts at a number.
+pub fn column_of(columns: &Columns, start: usize) -> &[u32]
+    requires { ⌜ start ≤ 512 ⌝ }
+    ensures { λ r. ⌜ now r ≡ columnFrom start (now (columns .entry)) ⌝ }
 {
     let all = &columns[..];
-    &all[0..TRANSACTIONS]
-}
-
-// The numbers of their transactions.
-pub fn transactions_of(columns: &Columns) -> &[u32]
-    ensures { λ r. ⌜ now r ≡ transactionColumn (now (columns .entry)) ⌝ }
-{
-    let all = &columns[..];
-    &all[TRANSACTIONS..PRIORITIES]
-}
-
-// Their priorities.
-pub fn priorities_of(columns: &Columns) -> &[u32]
-    ensures { λ r. ⌜ now r ≡ priorityColumn (now (columns .entry)) ⌝ }
-{
-    let all = &columns[..];
-    &all[PRIORITIES..OFFSETS]
-}
-
-// Their sizes.
-pub fn sizes_of(columns: &Columns) -> &[u32]
-    ensures { λ r. ⌜ now r ≡ sizeColumn (now (columns .entry)) ⌝ }
-{
-    let all = &columns[..];
-    &all[SIZES..THRESHOLDS]
-}
-
-// Their thresholds.
-pub fn thresholds_of(columns: &Columns) -> &[u32]
-    ensures { λ r. ⌜ now r ≡ thresholdColumn (now (columns .entry)) ⌝ }
-{
-    let all = &columns[..];
-    &all[THRESHOLDS..PERIODS]
+    &all[start..start + 64]
 }

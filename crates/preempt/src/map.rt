@@ -10,7 +10,8 @@ ghost use Rattle.rules.specs.Calls.{over, mapVerdict, mapAfter};
 ghost use Rattle.preempt.specs.Tasks.{decidedOn, decidedBy};
 use crate::barred::read_barred;
 use crate::columns::Columns;
-use crate::columns::ids_of;
+use crate::columns::IDS;
+use crate::columns::column_of;
 use crate::columns::period_read;
 use crate::columns::task_read;
 use crate::decide::may_preempt;
@@ -76,7 +77,7 @@ pub fn table_map(image: &[u8]) -> [u64; 64]
     ensures { λ r. ⌜ r ≡ mapOf (records (now (image .entry))) ⌝ }
 {
     let tasks = read_tasks(image);
-    let barred = read_barred(image, ids_of(&tasks.columns), tasks.count);
+    let barred = read_barred(image, column_of(&tasks.columns, IDS), tasks.count);
     map_of(&tasks.columns, &barred, tasks.count)
 }
 

@@ -18,11 +18,12 @@ use crate::path::path_bound;
 use crate::related::related_rows;
 use crate::search::heaviest_chain;
 use preempt::columns::Columns;
-use preempt::columns::ids_of;
-use preempt::columns::priorities_of;
-use preempt::columns::sizes_of;
-use preempt::columns::thresholds_of;
-use preempt::columns::transactions_of;
+use preempt::columns::IDS;
+use preempt::columns::PRIORITIES;
+use preempt::columns::SIZES;
+use preempt::columns::THRESHOLDS;
+use preempt::columns::TRANSACTIONS;
+use preempt::columns::column_of;
 use preempt::tasks::read_tasks;
 use rules::Bounds;
 use sets::places::index_of;
@@ -92,10 +93,10 @@ fn find(image: &[u8], columns: &Columns, count: usize, map: &[u64]) -> Found
     requires { ⌜ 64 ≤ length (now map) ⌝ }
     ensures { λ r. ⌜ FoundFor (records (now (image .entry))) (now (map .entry)) r ⌝ }
 {
-    let priorities = priorities_of(columns);
-    let sizes = sizes_of(columns);
-    let numbers = transactions_of(columns);
-    let rows = related_rows(thresholds_of(columns), priorities, map, count);
+    let priorities = column_of(columns, PRIORITIES);
+    let sizes = column_of(columns, SIZES);
+    let numbers = column_of(columns, TRANSACTIONS);
+    let rows = related_rows(column_of(columns, THRESHOLDS), priorities, map, count);
     let order = by_falling_priority(priorities, count);
     find_over(image, priorities, sizes, numbers, &rows, &order, count)
 }
@@ -134,7 +135,7 @@ pub fn find_bounds(image: &[u8], map: &[u64], ids: &mut [u16]) -> Bounds
     let found = find(image, &tasks.columns, tasks.count, map);
     let places = found.places;
     let length = found.length;
-    write_ids(places, length, ids_of(&tasks.columns), ids);
+    write_ids(places, length, column_of(&tasks.columns, IDS), ids);
     Bounds {
         number: 0,
         place: 0,

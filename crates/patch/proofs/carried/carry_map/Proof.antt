@@ -33,8 +33,8 @@ few image bytes table count columns read = few-read (records image) count column
 read-tasks-requires : tie.Need-read-tasks-requires
 read-tasks-requires c κs = search needs
 
-ids-of-requires : tie.Need-ids-of-requires
-ids-of-requires c κs = search needs
+column-of-requires : tie.Need-column-of-requires
+column-of-requires c κs = search needs
 
 read-barred-requires : tie.Need-read-barred-requires
 read-barred-requires c κs =
@@ -43,10 +43,10 @@ read-barred-requires c κs =
     let image = start .args .image .now in
     let bytes : Bytes image = λ k. read .before .before .shared-slice-known3 .given k .fits in
     let tasks-read = read .read-tasks in
-    (start .pre .0 .1, rw (c .ids-of .ensures) (directory image bytes (start .pre .0 .1) (tasks-read .result .count) (tasks-read .result .columns) (tasks-read .ensures)))
+    (start .pre .0 .1, rw (c .column-of .ensures) (directory image bytes (start .pre .0 .1) (tasks-read .result .count) (tasks-read .result .columns) (tasks-read .ensures)))
 
-transactions-of-requires : tie.Need-transactions-of-requires
-transactions-of-requires c κs = search needs
+column-of-requires-2 : tie.Need-column-of-requires-2
+column-of-requires-2 c κs = search needs
 
 touched-tasks-requires : tie.Need-touched-tasks-requires
 touched-tasks-requires c κs =
@@ -58,8 +58,8 @@ touched-tasks-requires c κs =
     let ids = directory image bytes (start .pre .0 .1) (tasks-read .result .count) (tasks-read .result .columns) (tasks-read .ensures) in
     let most = few image bytes (start .pre .0 .1) (tasks-read .result .count) (tasks-read .result .columns) (tasks-read .ensures) in
     let long = part-long 1 (tasks-read .result .columns) (omega arith) (tasks-read .ensures .columns .whole) in
-    let named = c .before .before .before .ids-of .ensures in
-    ((most, (rw named (ids .room), rw (c .transactions-of .ensures) (omega arith))), (rw named (ids .rising), start .pre .1 .1))
+    let named = c .before .before .before .column-of .ensures in
+    ((most, (rw named (ids .room), rw (c .column-of2 .ensures) (omega arith))), (rw named (ids .rising), start .pre .1 .1))
 
 old-places-requires : tie.Need-old-places-requires
 old-places-requires c κs =
@@ -69,7 +69,7 @@ old-places-requires c κs =
     let bytes : Bytes image = λ k. read .before .before .shared-slice-known3 .given k .fits in
     let tasks-read = read .read-tasks in
     let ids = directory image bytes (start .pre .0 .1) (tasks-read .result .count) (tasks-read .result .columns) (tasks-read .ensures) in
-    (start .pre .0 .0, (few image bytes (start .pre .0 .1) (tasks-read .result .count) (tasks-read .result .columns) (tasks-read .ensures), rw (c .before .before .before .before .ids-of .ensures) (ids .room)))
+    (start .pre .0 .0, (few image bytes (start .pre .0 .1) (tasks-read .result .count) (tasks-read .result .columns) (tasks-read .ensures), rw (c .before .before .before .before .column-of .ensures) (ids .room)))
 
 slice-aggregate-carried-rows : tie.Need-slice-aggregate-carried-rows
 slice-aggregate-carried-rows c = search needs
@@ -110,9 +110,9 @@ returns c =
     let whole : TasksRead (outcome bs ps) count columns = rw made at (tasks-read .ensures) in
     let pairs = c .before .before .before .before .before .before .before .before .before .before .read-barred in
     let barred : pairs .result ≡ barredMap (outcome bs ps) = rw made at (pairs .ensures) in
-    let named = c .before .before .before .before .before .before .before .before .before .before .before .ids-of .ensures in
+    let named = c .before .before .before .before .before .before .before .before .before .before .before .column-of .ensures in
     let set = c .before .before .before .before .before .before .before .touched-tasks in
-    let marked : Marks count (touchedAt ps (idColumn columns) (transactionColumn columns)) (set .result) = rw (← named, ← c .before .before .before .before .before .before .before .before .transactions-of .ensures) (set .ensures) in
+    let marked : Marks count (touchedAt ps (idColumn columns) (transactionColumn columns)) (set .result) = rw (← named, ← c .before .before .before .before .before .before .before .before .column-of2 .ensures) (set .ensures) in
     let old = c .before .before .before .before .before .before .old-places in
     let placed : old .result ≡ column count (λ i. placeOf (tasks bs) (getD (idColumn columns) i 0)) = rw (← named) (old .ensures) in
     record {
@@ -125,9 +125,9 @@ carry-map-spec =
     tie.close
     (tie.spec
     read-tasks-requires
-    ids-of-requires
+    column-of-requires
     read-barred-requires
-    transactions-of-requires
+    column-of-requires-2
     touched-tasks-requires
     old-places-requires
     slice-aggregate-carried-rows

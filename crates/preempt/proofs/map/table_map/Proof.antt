@@ -10,15 +10,15 @@ use Rattle.preempt.proofs.map.table_map.Tie as tie
 read-tasks-requires : tie.Need-read-tasks-requires
 read-tasks-requires c κs = search needs
 
-ids-of-requires : tie.Need-ids-of-requires
-ids-of-requires c κs = search needs
+column-of-requires : tie.Need-column-of-requires
+column-of-requires c κs = search needs
 
 read-barred-requires : tie.Need-read-barred-requires
 read-barred-requires c κs =
     let read = c .before .before .before in
     let start = read .before .before in
     let ids = ids-directory (records (start .args .image .now)) (read .read-tasks .result .count) (read .read-tasks .result .columns) (shape (start .args .image .now) (read .before .shared-slice-known .given) (start .pre)) (read .read-tasks .ensures) in
-    (start .pre, rw (c .ids-of .ensures) ids)
+    (start .pre, rw (c .column-of .ensures) ids)
 
 map-of-requires : tie.Need-map-of-requires
 map-of-requires c κs =
@@ -40,7 +40,7 @@ table-map-spec =
     tie.close
     (tie.spec
     read-tasks-requires
-    ids-of-requires
+    column-of-requires
     read-barred-requires
     map-of-requires
     returns)

@@ -1,4 +1,5 @@
--- An accepted table gives what the bounds ask, and what was found over its rows is right for the table and the map.
+-- An accepted table gives what the bounds ask, and what was found over its rows is right for the table and the map. The four
+-- columns are those of priorities, sizes, transactions and thresholds.
 use mathlib.Core.Path.{_≡_}
 use lib.ListN.{length}
 use Rattle.rules.specs.Blocks.{records}
@@ -16,17 +17,17 @@ use borrow.Author.Needs.{needs}
 use Rattle.stack.proofs.call.find.Statement.{statement}
 use Rattle.stack.proofs.call.find.Tie as tie
 
-priorities-of-requires : tie.Need-priorities-of-requires
-priorities-of-requires c κs = search needs
+column-of-requires : tie.Need-column-of-requires
+column-of-requires c κs = search needs
 
-sizes-of-requires : tie.Need-sizes-of-requires
-sizes-of-requires c κs = search needs
+column-of-requires-2 : tie.Need-column-of-requires-2
+column-of-requires-2 c κs = search needs
 
-transactions-of-requires : tie.Need-transactions-of-requires
-transactions-of-requires c κs = search needs
+column-of-requires-3 : tie.Need-column-of-requires-3
+column-of-requires-3 c κs = search needs
 
-thresholds-of-requires : tie.Need-thresholds-of-requires
-thresholds-of-requires c κs = search needs
+column-of-requires-4 : tie.Need-column-of-requires-4
+column-of-requires-4 c κs = search needs
 
 related-rows-requires : tie.Need-related-rows-requires
 related-rows-requires c κs =
@@ -39,7 +40,7 @@ related-rows-requires c κs =
     let read = start .pre .1 .0 in
     let thresholds = part-long 7 columns (omega arith) (read .columns .whole) in
     let priorities = part-long 2 columns (omega arith) (read .columns .whole) in
-    (few-read (records image) count columns (shape image slices (start .pre .0)) read, rw (c .thresholds-of .ensures) thresholds, rw (c .before .before .before .priorities-of .ensures) priorities, start .pre .1 .1)
+    (few-read (records image) count columns (shape image slices (start .pre .0)) read, rw (c .column-of4 .ensures) thresholds, rw (c .before .before .before .column-of .ensures) priorities, start .pre .1 .1)
 
 by-falling-priority-requires : tie.Need-by-falling-priority-requires
 by-falling-priority-requires c κs =
@@ -51,7 +52,7 @@ by-falling-priority-requires c κs =
     let columns = start .args .columns .now in
     let read = start .pre .1 .0 in
     let priorities = part-long 2 columns (omega arith) (read .columns .whole) in
-    (few-read (records image) count columns (shape image slices (start .pre .0)) read, rw (c .before .before .before .before .priorities-of .ensures) priorities)
+    (few-read (records image) count columns (shape image slices (start .pre .0)) read, rw (c .before .before .before .before .column-of .ensures) priorities)
 
 slice-aggregate-find-over : tie.Need-slice-aggregate-find-over
 slice-aggregate-find-over c = search needs
@@ -70,16 +71,16 @@ find-over-requires c κs =
     let columns = start .args .columns .now in
     let read = start .pre .1 .0 in
     let lent = start .args .map .now in
-    let priorities = c .before .before .before .before .before .before .before .priorities-of .ensures in
+    let priorities = c .before .before .before .before .before .before .before .column-of .ensures in
     let rows = c .before .before .before .related-rows in
     let order = c .before .before .by-falling-priority in
-    let related : RelatedRows count (thresholdColumn columns) (priorityColumn columns) lent (rows .result) = rw (← c .before .before .before .before .thresholds-of .ensures, ← priorities) (rows .ensures) in
+    let related : RelatedRows count (thresholdColumn columns) (priorityColumn columns) lent (rows .result) = rw (← c .before .before .before .before .column-of4 .ensures, ← priorities) (rows .ensures) in
     let falling : Falling count (priorityColumn columns) (order .result) = rw (← priorities) (order .ensures) in
     let long : length (order .result) ≡ 64 = search needs in (
       right,
       (
-        rw (c .before .before .before .before .before .before .sizes-of .ensures) (rows-ready image slices right count columns read lent (rows .result) (order .result) long related falling),
-        (rw priorities (rows-rising image slices right count columns read lent (rows .result) related), rw (c .before .before .before .before .before .transactions-of .ensures) (part-long 1 columns (omega arith) (read .columns .whole))),
+        rw (c .before .before .before .before .before .before .column-of2 .ensures) (rows-ready image slices right count columns read lent (rows .result) (order .result) long related falling),
+        (rw priorities (rows-rising image slices right count columns read lent (rows .result) related), rw (c .before .before .before .before .before .column-of3 .ensures) (part-long 1 columns (omega arith) (read .columns .whole))),
       ),
     )
 
@@ -94,20 +95,20 @@ returns c =
     let read = start .pre .1 .0 in
     let lent = start .args .map .now in
     let whole = shape image (known .shared-slice-known .given) right in
-    let priorities = c .before .before .before .before .before .before .before .before .priorities-of .ensures in
+    let priorities = c .before .before .before .before .before .before .before .before .column-of .ensures in
     let rows = c .before .before .before .before .related-rows in
-    let related : RelatedRows count (thresholdColumn columns) (priorityColumn columns) lent (rows .result) = rw (← c .before .before .before .before .before .thresholds-of .ensures, ← priorities) (rows .ensures) in
-    let over : FoundOver count (rows .result) (sizeColumn columns) (priorityColumn columns) (transactionColumn columns) (transactions (records image)) (c .find-over .result) = rw (← c .before .before .before .before .before .before .before .sizes-of .ensures, ← priorities, ← c .before .before .before .before .before .before .transactions-of .ensures) (c .find-over .ensures) in
+    let related : RelatedRows count (thresholdColumn columns) (priorityColumn columns) lent (rows .result) = rw (← c .before .before .before .before .before .column-of4 .ensures, ← priorities) (rows .ensures) in
+    let over : FoundOver count (rows .result) (sizeColumn columns) (priorityColumn columns) (transactionColumn columns) (transactions (records image)) (c .find-over .result) = rw (← c .before .before .before .before .before .before .before .column-of2 .ensures, ← priorities, ← c .before .before .before .before .before .before .column-of3 .ensures) (c .find-over .ensures) in
     found-for (records image) lent count columns whole read (rows .result) (c .find-over .result) (rows-same (records image) lent count columns whole read (rows .result) (related .cells)) over
 
 pub find-spec : {M : Type 1} → statement M
 find-spec =
     tie.close
     (tie.spec
-    priorities-of-requires
-    sizes-of-requires
-    transactions-of-requires
-    thresholds-of-requires
+    column-of-requires
+    column-of-requires-2
+    column-of-requires-3
+    column-of-requires-4
     related-rows-requires
     by-falling-priority-requires
     slice-aggregate-find-over

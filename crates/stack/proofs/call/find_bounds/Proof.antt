@@ -68,8 +68,8 @@ read-tasks-requires c κs = sound (c .before .before)
 find-requires : tie.Need-find-requires
 find-requires c κs = (sound (c .before .before .before .before .before), (c .before .before .read-tasks .ensures, c .before .before .before .before .if2 .left))
 
-ids-of-requires : tie.Need-ids-of-requires
-ids-of-requires c κs = search needs
+column-of-requires : tie.Need-column-of-requires
+column-of-requires c κs = search needs
 
 write-ids-requires : tie.Need-write-ids-requires
 write-ids-requires c κs =
@@ -83,7 +83,7 @@ write-ids-requires c κs =
     let tasks = read .read-tasks .result in
     let found = c .before .before .before .before .before .find in
     let long : length (found .result .places) ≡ 64 = search needs in
-    let named = c .before .ids-of .ensures in
+    let named = c .before .column-of .ensures in
     let room = read .before .if3 .left in (
       (long, found .ensures .room, rw named (part-long 0 (tasks .columns) (omega arith) (read .read-tasks .ensures .columns .whole)), room),
       (λ k h. places-below image lent ids right (read .before .before .if2 .left) room (found .result) (found .ensures) (shape image known right .few-tasks) k long h, rw named (ids-small image known right (tasks .count) (tasks .columns) (read .read-tasks .ensures))),
@@ -118,7 +118,7 @@ returns-4 c =
     let found = c .before .before .before .before .before .before .before .before .find in
     let whole = shape image known right in
     let long : length (found .result .places) ≡ 64 = search needs in
-    let named : (λ (i : ℕ). getD (c .before .before .before .before .ids-of .result .now) i 0) ≡ idAt (records image) = rw (c .before .before .before .before .ids-of .ensures) (ids-same (records image) lent (tasks .count) (tasks .columns) whole (read .read-tasks .ensures)) in
+    let named : (λ (i : ℕ). getD (c .before .before .before .before .column-of .result .now) i 0) ≡ idAt (records image) = rw (c .before .before .before .before .column-of .ensures) (ids-same (records image) lent (tasks .count) (tasks .columns) whole (read .read-tasks .ensures)) in
     let written = ap (λ (f : ℕ → ℕ). over (map f (take (found .result .length) (found .result .places))) ids) named in
     answered image lent ids right (read .before .before .if2 .left) (read .before .if3 .left) (found .result) (found .ensures) _ (tasks .count) (read .read-tasks .ensures .count) long (c .before .before .write-ids .ensures ∙ written)
 
@@ -135,7 +135,7 @@ find-bounds-spec =
     returns-3
     read-tasks-requires
     find-requires
-    ids-of-requires
+    column-of-requires
     write-ids-requires
     cast-t18
     cast-t19
