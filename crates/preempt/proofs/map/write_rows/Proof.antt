@@ -1,20 +1,14 @@
 -- The loop keeps that the rows passed are written and the others are as they were.
-use Prim.Native.Nat.{ℕ, suc, _+_, _-_, _≤_, _<_}
-use mathlib.Core.List.{List, _++_}
+use Prim.Native.Nat.{_-_, _≤_}
+use mathlib.Core.List.{_++_}
 use mathlib.Core.Path.{_≡_, refl, _∙_}
-use native.Mathlib.Numerals.{add-one}
 use native.Mathlib.Omega.{arith}
 use borrow.Author.Needs.{needs}
-use lib.Seq.{take-suc, drop-cons, append-snoc, set-at, length-take-le, take-all}
-use lib.ListN.{getD, length, take, drop, set, length-set}
+use lib.Seq.{take-all}
+use lib.ListN.{length, take, drop, length-set}
+use Rattle.image.proofs.Writes.{copied-more}
 use Rattle.preempt.proofs.map.write_rows.Statement.{statement}
 use Rattle.preempt.proofs.map.write_rows.Tie as tie
-
--- one more number is written over
-next-written : (map lent₀ lent : List ℕ) (i : ℕ) → i < length map → i < length lent₀ → lent ≡ take i map ++ drop i lent₀
-    → set lent i (getD map i 0) ≡ take (i + 1) map ++ drop (i + 1) lent₀
-next-written map lent₀ lent i h h′ e =
-    rw (e, add-one, drop-cons lent₀ i 0, take-suc map i 0, append-snoc) (set-at (take i map) (getD lent₀ i 0) (drop (suc i) lent₀) (getD map i 0) i (length-take-le i map (omega arith)))
 
 abbrev Inv-loop : tie.InvT-loop
 Inv-loop lent₀ map i₀ lent i = (i ≤ 64) × (length lent ≡ length lent₀) × (lent ≡ take i map ++ drop i lent₀)
@@ -47,7 +41,7 @@ loop-again : tie.Need-loop-again Inv-loop μ-loop
 loop-again c =
     let a = c .before .before .args in
     let s = c .before .loop in
-    (omega arith, length-set (s .lent) (s .i) _ ∙ s .inv .1, next-written (a .t1) (a .lent .now) (s .lent) (s .i) (omega arith) (omega arith) (s .inv .2))
+    (omega arith, length-set (s .lent) (s .i) _ ∙ s .inv .1, rw (s .inv .2) (copied-more (a .t1) (a .lent .now) (s .i) (omega arith) (omega arith)))
 
 same-length : tie.Need-same-length Inv-loop μ-loop
 same-length c = search needs
