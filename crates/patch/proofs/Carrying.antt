@@ -15,29 +15,19 @@ use Rattle.rules.proofs.Table.Shape.{Shape}
 use Rattle.sets.specs.Bits.{column}
 use Rattle.preempt.specs.Tasks.{TasksRead, idColumn, transactionColumn, barredMap}
 use Rattle.sets.proofs.Columns.{column-at}
-use Rattle.preempt.proofs.Reading.{field-at, few-read, decided-read}
+use Rattle.preempt.proofs.Reading.{few-read, id-is, transaction-is, decided-read}
 use Rattle.patch.specs.Touched.{Marks, touchedAt}
 use Rattle.patch.specs.Carried.{cellNew, carriedBy}
 
 -- base and patch, what was read of their outcome, the set of touched tasks and the old places
 module _ (base patch : List (List ℕ)) (count : ℕ) (columns : List ℕ) (barred old : List ℕ) (set : ℕ) (shape : Shape (outcome base patch)) (read : TasksRead (outcome base patch) count columns) (pairs-read : barred ≡ barredMap (outcome base patch)) (marked : Marks count (touchedAt patch (idColumn columns) (transactionColumn columns)) set) (placed : old ≡ column count (λ i. placeOf (tasks base) (getD (idColumn columns) i 0))) where
-  -- the id that was read
-  id-read : (i : ℕ) → i < count → getD (idColumn columns) i 0 ≡ taskAt (outcome base patch) i .id
-  id-read i h =
-      field-at (outcome base patch) (idColumn columns) (λ j. taskAt (outcome base patch) j .id) shape (read .columns .ids) i (omega (arith, read .count))
-
-  -- and the transaction
-  transaction-read : (i : ℕ) → i < count → getD (transactionColumn columns) i 0 ≡ taskAt (outcome base patch) i .transaction
-  transaction-read i h =
-      field-at (outcome base patch) (transactionColumn columns) (λ j. taskAt (outcome base patch) j .transaction) shape (read .columns .transactions) i (omega (arith, read .count))
-
   -- a place is in the set where its task is touched
   touched-read : (i : ℕ) → i < count → bitAt set i ≡ touched base patch i
   unfolding touched
   touched-read i h =
       marked i h
-      ∙ ap (λ (id : ℕ). some (λ k. concerns (getD patch k []) id (getD (transactionColumn columns) i 0)) (length patch)) (id-read i h)
-      ∙ ap (λ (number : ℕ). some (λ k. concerns (getD patch k []) (taskAt (outcome base patch) i .id) number) (length patch)) (transaction-read i h)
+      ∙ ap (λ (id : ℕ). some (λ k. concerns (getD patch k []) id (getD (transactionColumn columns) i 0)) (length patch)) (id-is (outcome base patch) count columns shape read i)
+      ∙ ap (λ (number : ℕ). some (λ k. concerns (getD patch k []) (taskAt (outcome base patch) i .id) number) (length patch)) (transaction-is (outcome base patch) count columns shape read i)
 
   -- so as many are in it as are touched
   pub touched-counted : countTo (bitAt set) count ≡ touchedCount base patch
@@ -50,7 +40,7 @@ module _ (base patch : List (List ℕ)) (count : ℕ) (columns : List ℕ) (barr
   old-read i h =
       ap (λ (l : List ℕ). getD l i 0) placed
       ∙ column-at count (λ j. placeOf (tasks base) (getD (idColumn columns) j 0)) i (few-read (outcome base patch) count columns shape read) h
-      ∙ ap (placeOf (tasks base)) (id-read i h)
+      ∙ ap (placeOf (tasks base)) (id-is (outcome base patch) count columns shape read i)
 
   -- a cell of the new map
   cell-read : (rows : List ℕ) (i j : ℕ) → i < count → j < count → carriedBy columns barred set old rows i j ≡ carried base patch rows i j

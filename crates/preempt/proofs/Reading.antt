@@ -1,21 +1,23 @@
--- What the tasks that were read say of the tasks of the table.
+-- What was read is the table's, field by field: column m has its number at 64 * m and the task's place.
 use Prim.Native.Nat.{ℕ, _+_, _*_, _≤_, _<_}
 use mathlib.Core.List.{List, []}
-use mathlib.Core.Path.{_≡_, ap, sym, _∙_}
+use mathlib.Core.Path.{_≡_, refl, ap, sym, _∙_}
 use native.Mathlib.Omega.{arith}
-use lib.ListN.{length, getD, drop, length-take, length-drop, take-append-drop, drop-of-length-le}
+use lib.ListN.{getD, drop, take-append-drop, drop-of-length-le, List·getD-eq-default}
 use lib.Seq.{getD-take, getD-drop, drop-drop}
-use Rattle.rules.specs.Records.{numberOf, tasks, taskCount, taskAt, periodAt}
+use Rattle.rules.specs.declared.Task.{Task}
+use Rattle.rules.specs.Records.{numberOf, secondOf, tasks, taskCount, taskOf, taskAt, periodIn, periodAt}
 use Rattle.rules.specs.Preempt.{barred, decided, cell, mapFrom, mapOf}
+use Rattle.rules.specs.Chains.{sizeAt, idAt, priorityAt}
 use Rattle.rules.proofs.Table.Shape.{Shape}
 use Rattle.rules.proofs.Maps.{cell-of-map, map-ext}
 use Rattle.table.specs.Numbers.{Directory}
 use Rattle.sets.specs.Bits.{column}
-use Rattle.preempt.specs.Tasks.{columnIn, idColumn, TasksRead, barredMap, taskRead, decidedOn, decidedBy}
-use Rattle.sets.proofs.Columns.{column-at}
+use Rattle.preempt.specs.Tasks.{columnIn, idColumn, transactionColumn, priorityColumn, sizeColumn, thresholdColumn, TasksRead, barredMap, taskRead, decidedOn, decidedBy}
+use Rattle.sets.proofs.Columns.{column-long, column-at, column-total}
 
 -- a field of the task at a place that holds one
-pub field-at : (rs : List (List ℕ)) (l : List ℕ) (f : ℕ → ℕ) → Shape rs → l ≡ column (taskCount rs) f → (i : ℕ) → i < taskCount rs → getD l i 0 ≡ f i
+field-at : (rs : List (List ℕ)) (l : List ℕ) (f : ℕ → ℕ) → Shape rs → l ≡ column (taskCount rs) f → (i : ℕ) → i < taskCount rs → getD l i 0 ≡ f i
 field-at rs l f shape e i h = ap (λ (c : List ℕ). getD c i 0) e ∙ column-at (taskCount rs) f i (shape .few-tasks) h
 
 -- the same where it is read in one of the columns
@@ -26,13 +28,35 @@ part-at rs columns m f shape e i h =
     ∙ sym (getD-take 64 (drop (64 * m) columns) i 0 (omega (arith, shape .few-tasks)))
     ∙ field-at rs (columnIn m columns) f shape e i h
 
--- each column has 64 numbers
-pub part-long : (m : ℕ) (columns : List ℕ) → m < 9 → length columns ≡ 576 → length (columnIn m columns) ≡ 64
-part-long m columns h whole = simp (length-take, length-drop) (omega (arith, whole))
-
 -- there are at most 64 tasks
 pub few-read : (rs : List (List ℕ)) (count : ℕ) (columns : List ℕ) → Shape rs → TasksRead rs count columns → count ≤ 64
 few-read rs count columns shape read = omega (arith, read .count, shape .few-tasks)
+
+-- a field that an empty record has at 0 is read the same at every place
+field-total : (rs : List (List ℕ)) (field : Task → ℕ) (l : List ℕ) → taskCount rs ≤ 64 → field (taskOf (periodIn rs (secondOf [])) []) ≡ 0 → l ≡ column (taskCount rs) (λ i. field (taskAt rs i))
+    → (i : ℕ) → getD l i 0 ≡ field (taskAt rs i)
+field-total rs field l few none read i =
+    ap (λ (c : List ℕ). getD c i 0) read
+    ∙ column-total (taskCount rs) (λ k. field (taskAt rs k)) few
+    (λ k out. ap (λ (r : List ℕ). field (taskOf (periodIn rs (secondOf r)) r)) (List·getD-eq-default (tasks rs) [] out) ∙ none)
+    i
+
+-- columns that others ask, at every place
+module _ (rs : List (List ℕ)) (count : ℕ) (columns : List ℕ) (shape : Shape rs) (read : TasksRead rs count columns) where
+  pub id-is : (i : ℕ) → getD (idColumn columns) i 0 ≡ idAt rs i
+  id-is = field-total rs (λ task. task .id) (idColumn columns) (shape .few-tasks) refl (read .columns .ids)
+
+  pub transaction-is : (i : ℕ) → getD (transactionColumn columns) i 0 ≡ taskAt rs i .transaction
+  transaction-is = field-total rs (λ task. task .transaction) (transactionColumn columns) (shape .few-tasks) refl (read .columns .transactions)
+
+  pub priority-is : (i : ℕ) → getD (priorityColumn columns) i 0 ≡ priorityAt rs i
+  priority-is = field-total rs (λ task. task .priority) (priorityColumn columns) (shape .few-tasks) refl (read .columns .priorities)
+
+  pub size-is : (i : ℕ) → getD (sizeColumn columns) i 0 ≡ sizeAt rs i
+  size-is = field-total rs (λ task. task .size) (sizeColumn columns) (shape .few-tasks) refl (read .columns .sizes)
+
+  pub threshold-is : (i : ℕ) → getD (thresholdColumn columns) i 0 ≡ taskAt rs i .threshold
+  threshold-is = field-total rs (λ task. task .threshold) (thresholdColumn columns) (shape .few-tasks) refl (read .columns .thresholds)
 
 -- two lists that agree in one column, and behind it, agree from that column on
 same-from : (m : ℕ) (l k : List ℕ) → columnIn m l ≡ columnIn m k → drop (64 * m + 64) l ≡ drop (64 * m + 64) k → drop (64 * m) l ≡ drop (64 * m) k
@@ -60,15 +84,15 @@ tasks-determined rs n m l k p q =
 -- the ids are a directory of the tasks
 pub ids-directory : (rs : List (List ℕ)) (count : ℕ) (columns : List ℕ) → Shape rs → TasksRead rs count columns → Directory (tasks rs) (idColumn columns) count
 ids-directory rs count columns shape read =
-    let id : (i : ℕ) → i < taskCount rs → getD (idColumn columns) i 0 ≡ numberOf (getD (tasks rs) i []) = field-at rs (idColumn columns) (λ i. taskAt rs i .id) shape (read .columns .ids) in
+    let id : (i : ℕ) → getD (idColumn columns) i 0 ≡ numberOf (getD (tasks rs) i []) = id-is rs count columns shape read in
     record {
       counted = read .count;
-      room = omega (arith, few-read rs count columns shape read, part-long 0 columns (omega arith) (read .columns .whole));
-      right = λ k h. id k (omega (arith, read .count));
+      room = omega (arith, few-read rs count columns shape read, column-long _ _ (read .columns .ids));
+      right = λ k h. id k;
       rising =
           λ i j b l.
           let l′ : j < taskCount rs = omega (arith, read .count) in
-          omega (arith, id i (omega arith), id j l′, shape .tasks-rise i j b l′);
+          omega (arith, id i, id j, shape .tasks-rise i j b l′);
     }
 
 -- what was read of a table, and of its pairs

@@ -2,10 +2,10 @@
 use Prim.Native.Nat.{ℕ, _+_, _≤_, _<_}
 use mathlib.Core.List.{List}
 use mathlib.Core.Bool.{cond}
-use mathlib.Core.Path.{_≡_, sym, _∙_}
+use mathlib.Core.Path.{_≡_, ap, sym, _∙_}
 use native.Mathlib.Omega.{arith}
 use borrow.Author.Tests.{lt-ltb, le-ltb, ltb-true, ltb-false, eqb-true, eqb-false}
-use lib.ListN.{length, getD, set, replicate, length-set, length-replicate, getD-replicate}
+use lib.ListN.{length, getD, set, replicate, length-set, length-replicate, getD-replicate, List·getD-eq-default}
 use lib.Seq.{ext-getD, getD-set-same, getD-set-other}
 use lib.Dec.{ltb, eqb}
 use Rattle.rules.proofs.Numbers.{either, length-upTo, getD-upTo}
@@ -15,6 +15,10 @@ pub column-length : (n : ℕ) (f : ℕ → ℕ) → length (column n f) ≡ 64
 unfolding column
 column-length n f = length-upTo (λ i. cond (ltb i n) (f i) 0) 64
 
+-- so what is one has 64 numbers
+pub column-long : {l : List ℕ} (n : ℕ) (f : ℕ → ℕ) → l ≡ column n f → length l ≡ 64
+column-long n f e = ap length e ∙ column-length n f
+
 -- what stands at a place of the 64
 column-here : (n : ℕ) (f : ℕ → ℕ) (i : ℕ) → i < 64 → getD (column n f) i 0 ≡ cond (ltb i n) (f i) 0
 unfolding column
@@ -23,8 +27,21 @@ column-here n f i h = getD-upTo (λ i. cond (ltb i n) (f i) 0) 64 i 0 h
 pub column-at : (n : ℕ) (f : ℕ → ℕ) (i : ℕ) → n ≤ 64 → i < n → getD (column n f) i 0 ≡ f i
 column-at n f i most h = column-here n f i (omega arith) ∙ rw (lt-ltb i n h)
 
-pub column-beyond : (n : ℕ) (f : ℕ → ℕ) (i : ℕ) → n ≤ i → i < 64 → getD (column n f) i 0 ≡ 0
+column-beyond : (n : ℕ) (f : ℕ → ℕ) (i : ℕ) → n ≤ i → i < 64 → getD (column n f) i 0 ≡ 0
 column-beyond n f i past h = column-here n f i h ∙ rw (le-ltb i n past)
+
+-- a column of a function that is 0 beyond n is the function
+pub column-total : (n : ℕ) (f : ℕ → ℕ) → n ≤ 64 → ((i : ℕ) → n ≤ i → f i ≡ 0) → (i : ℕ) → getD (column n f) i 0 ≡ f i
+column-total n f few beyond i =
+    either (ltb i n)
+    (λ t. column-at n f i few (ltb-true i n t))
+    (λ t.
+    let out = ltb-false i n t in
+    either (ltb i 64)
+    (λ u. column-beyond n f i out (ltb-true i 64 u) ∙ sym (beyond i out))
+    (λ u.
+    let past : length (column n f) ≤ i = omega (arith, column-length n f, ltb-false i 64 u) in
+    List·getD-eq-default (column n f) 0 past ∙ sym (beyond i out)))
 
 -- a column of zeros
 pub column-zero : (n : ℕ) (f : ℕ → ℕ) → ((i : ℕ) → i < n → f i ≡ 0) → replicate 64 0 ≡ column n f

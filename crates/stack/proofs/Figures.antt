@@ -13,11 +13,11 @@ use Rattle.rules.specs.Preempt.{cell, bitAt}
 use Rattle.rules.proofs.Table.Shape.{Shape}
 use Rattle.sets.specs.Places.{Below}
 use Rattle.preempt.specs.Tasks.{TasksRead, idColumn, transactionColumn, priorityColumn, sizeColumn, thresholdColumn}
+use Rattle.preempt.proofs.Reading.{id-is, transaction-is, priority-is, size-is, threshold-is}
 use Rattle.stack.specs.declared.call.Found.{Found}
 use Rattle.stack.specs.Paths.{sizeIn}
 use Rattle.stack.specs.Levels.{levelsOf}
 use Rattle.stack.specs.Figures.{ownTask, OwnPaths, figuresIn, FoundOver, FoundFor}
-use Rattle.stack.proofs.Columns.{id-is, transaction-is, priority-is, size-is, threshold-is}
 use Rattle.rules.specs.Chains.{weight, Chain, Path, All, Before, Largest, Heaviest, related, sizeAt, idAt, priorityAt, inTransaction, TransactionBound, levelBound}
 use Rattle.rules.specs.Chains.Before.{less, later, shorter}
 

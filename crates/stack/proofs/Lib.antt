@@ -5,7 +5,6 @@ pub mod Extending
 pub mod Inserting
 pub mod Relating
 pub mod Levelling
-pub mod Columns
 pub mod Figures
 pub mod Writing
 pub mod Owning

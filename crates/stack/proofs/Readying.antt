@@ -17,13 +17,13 @@ use Rattle.rules.proofs.Tests.{both-first, both-second, T-true}
 use Rattle.rules.proofs.Table.Ranges.{TaskRanges, task-ranges, le2-small}
 use Rattle.rules.proofs.Table.Shape.{Shape, ofKind-bytes}
 use Rattle.preempt.specs.Tasks.{TasksRead, idColumn, priorityColumn, sizeColumn, thresholdColumn}
+use Rattle.sets.proofs.Columns.{column-long}
 use Rattle.preempt.proofs.Accepted.{shape}
-use Rattle.preempt.proofs.Reading.{few-read, part-long}
+use Rattle.preempt.proofs.Reading.{few-read, id-is, priority-is, size-is, threshold-is}
 use Rattle.stack.specs.Order.{Falling}
 use Rattle.stack.specs.Setting.{Ready, RowsRise}
 use Rattle.stack.specs.Related.{RelatedRows}
 use Rattle.stack.proofs.Inserting.{falling-ready}
-use Rattle.stack.proofs.Columns.{id-is, priority-is, size-is, threshold-is}
 
 module _ (image : List ℕ) (known : (k : ℕ) → Fits w8 (getD image k 0)) (right : accepted (tableVerdict image) ≡ true) (count : ℕ) (columns : List ℕ) (read : TasksRead (records image) count columns) where
   accepted-shape : Shape (records image)
@@ -46,7 +46,7 @@ module _ (image : List ℕ) (known : (k : ℕ) → Fits w8 (getD image k 0)) (ri
   pub rows-rising : (lent rows : List ℕ) → RelatedRows count (thresholdColumn columns) (priorityColumn columns) lent rows → RowsRise count rows (priorityColumn columns)
   rows-rising lent rows related =
       record {
-        priority-count = part-long 2 columns (omega arith) (read .columns .whole);
+        priority-count = column-long _ _ (read .columns .priorities);
         tasks = λ i j may.
             let both = both-first (ltb i count && ltb j count) _ (sym (related .cells i j) ∙ T-true (cell rows i j) may) in
             (ltb-true i count (both-first (ltb i count) (ltb j count) both), ltb-true j count (both-second (ltb i count) (ltb j count) both));
@@ -62,5 +62,5 @@ module _ (image : List ℕ) (known : (k : ℕ) → Fits w8 (getD image k 0)) (ri
       → Ready count rows (sizeColumn columns) order
   rows-ready lent rows order long related falling =
       falling-ready
-      (record { few = few-read (records image) count columns accepted-shape read; row-count = related .row-count; size-count = part-long 6 columns (omega arith) (read .columns .whole); light = λ i h. sizes-light i })
+      (record { few = few-read (records image) count columns accepted-shape read; row-count = related .row-count; size-count = column-long _ _ (read .columns .sizes); light = λ i h. sizes-light i })
       long falling (rows-rising lent rows related)

@@ -2,9 +2,9 @@
 use Prim.Native.Nat.{ℕ, _≤_}
 use mathlib.Core.List.{List}
 use mathlib.Core.Bool.{true}
-use mathlib.Core.Path.{_≡_, ap, _∙_}
+use mathlib.Core.Path.{_≡_, _∙_}
 use native.Mathlib.Omega.{arith}
-use lib.ListN.{length, getD}
+use lib.ListN.{getD}
 use Rattle.rules.specs.Numbers.{Bytes}
 use Rattle.rules.specs.Blocks.{records}
 use Rattle.rules.specs.Records.{tasks, placeOf}
@@ -15,8 +15,8 @@ use Rattle.rules.proofs.Table.Listed.{table-of}
 use Rattle.table.specs.Numbers.{Directory}
 use Rattle.preempt.specs.Tasks.{TasksRead, idColumn, transactionColumn, barredMap}
 use Rattle.sets.specs.Bits.{column}
-use Rattle.sets.proofs.Columns.{column-length}
-use Rattle.preempt.proofs.Reading.{few-read, part-long, ids-directory}
+use Rattle.sets.proofs.Columns.{column-long}
+use Rattle.preempt.proofs.Reading.{few-read, ids-directory}
 use Rattle.patch.specs.Touched.{Marks, touchedAt}
 use Rattle.patch.proofs.Carrying.{carried-read, touched-counted}
 use borrow.Author.Needs.{needs}
@@ -57,7 +57,7 @@ touched-tasks-requires c κs =
     let tasks-read = read .read-tasks in
     let ids = directory image bytes (start .pre .0 .1) (tasks-read .result .count) (tasks-read .result .columns) (tasks-read .ensures) in
     let most = few image bytes (start .pre .0 .1) (tasks-read .result .count) (tasks-read .result .columns) (tasks-read .ensures) in
-    let long = part-long 1 (tasks-read .result .columns) (omega arith) (tasks-read .ensures .columns .whole) in
+    let long = column-long _ _ (tasks-read .ensures .columns .transactions) in
     let named = c .before .before .before .column-of .ensures in
     ((most, (rw named (ids .room), rw (c .column-of2 .ensures) (omega arith))), (rw named (ids .rising), start .pre .1 .1))
 
@@ -82,7 +82,7 @@ carried-rows-requires c κs =
     let bytes : Bytes image = λ k. read .before .before .shared-slice-known3 .given k .fits in
     let tasks-read = read .read-tasks in
     let old = c .before .before .before .before .old-places in
-    let long = ap length (old .ensures) ∙ column-length (tasks-read .result .count) _ in
+    let long = column-long _ _ (old .ensures) in
     (few image bytes (start .pre .0 .1) (tasks-read .result .count) (tasks-read .result .columns) (tasks-read .ensures), omega arith)
 
 count-places-requires : tie.Need-count-places-requires

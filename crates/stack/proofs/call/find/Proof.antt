@@ -5,14 +5,14 @@ use lib.ListN.{length}
 use Rattle.rules.specs.Blocks.{records}
 use Rattle.rules.specs.Records.{transactions}
 use Rattle.preempt.specs.Tasks.{transactionColumn, priorityColumn, sizeColumn, thresholdColumn}
+use Rattle.sets.proofs.Columns.{column-long}
 use Rattle.preempt.proofs.Accepted.{shape}
-use Rattle.preempt.proofs.Reading.{few-read, part-long}
+use Rattle.preempt.proofs.Reading.{few-read}
 use Rattle.stack.specs.Order.{Falling}
 use Rattle.stack.specs.Related.{RelatedRows}
 use Rattle.stack.specs.Figures.{FoundOver}
 use Rattle.stack.proofs.Figures.{rows-same, found-for}
 use Rattle.stack.proofs.Readying.{rows-rising, rows-ready}
-use native.Mathlib.Omega.{arith}
 use borrow.Author.Needs.{needs}
 use Rattle.stack.proofs.call.find.Statement.{statement}
 use Rattle.stack.proofs.call.find.Tie as tie
@@ -38,8 +38,8 @@ related-rows-requires c κs =
     let count = start .args .count in
     let columns = start .args .columns .now in
     let read = start .pre .1 .0 in
-    let thresholds = part-long 7 columns (omega arith) (read .columns .whole) in
-    let priorities = part-long 2 columns (omega arith) (read .columns .whole) in
+    let thresholds = column-long _ _ (read .columns .thresholds) in
+    let priorities = column-long _ _ (read .columns .priorities) in
     (few-read (records image) count columns (shape image slices (start .pre .0)) read, rw (c .column-of4 .ensures) thresholds, rw (c .before .before .before .column-of .ensures) priorities, start .pre .1 .1)
 
 by-falling-priority-requires : tie.Need-by-falling-priority-requires
@@ -51,7 +51,7 @@ by-falling-priority-requires c κs =
     let count = start .args .count in
     let columns = start .args .columns .now in
     let read = start .pre .1 .0 in
-    let priorities = part-long 2 columns (omega arith) (read .columns .whole) in
+    let priorities = column-long _ _ (read .columns .priorities) in
     (few-read (records image) count columns (shape image slices (start .pre .0)) read, rw (c .before .before .before .before .column-of .ensures) priorities)
 
 slice-aggregate-find-over : tie.Need-slice-aggregate-find-over
@@ -80,7 +80,7 @@ find-over-requires c κs =
       right,
       (
         rw (c .before .before .before .before .before .before .column-of2 .ensures) (rows-ready image slices right count columns read lent (rows .result) (order .result) long related falling),
-        (rw priorities (rows-rising image slices right count columns read lent (rows .result) related), rw (c .before .before .before .before .before .column-of3 .ensures) (part-long 1 columns (omega arith) (read .columns .whole))),
+        (rw priorities (rows-rising image slices right count columns read lent (rows .result) related), rw (c .before .before .before .before .before .column-of3 .ensures) (column-long _ _ (read .columns .transactions))),
       ),
     )
 

@@ -11,8 +11,9 @@ use Rattle.rules.specs.Blocks.{records}
 use Rattle.rules.specs.Refusals.{accepted, tableVerdict}
 use Rattle.rules.specs.Chains.{idAt}
 use Rattle.rules.specs.Calls.{over, BoundCall, boundRefusal}
+use Rattle.sets.proofs.Columns.{column-long}
 use Rattle.preempt.proofs.Accepted.{shape}
-use Rattle.preempt.proofs.Reading.{few-read, part-long}
+use Rattle.preempt.proofs.Reading.{few-read}
 use Rattle.stack.proofs.Figures.{ids-same}
 use Rattle.stack.proofs.Readying.{ids-small}
 use Rattle.stack.proofs.Calling.{by-table, by-short, answered, places-below}
@@ -85,7 +86,7 @@ write-ids-requires c κs =
     let long : length (found .result .places) ≡ 64 = search needs in
     let named = c .before .column-of .ensures in
     let room = read .before .if3 .left in (
-      (long, found .ensures .room, rw named (part-long 0 (tasks .columns) (omega arith) (read .read-tasks .ensures .columns .whole)), room),
+      (long, found .ensures .room, rw named (column-long _ _ (read .read-tasks .ensures .columns .ids)), room),
       (λ k h. places-below image lent ids right (read .before .before .if2 .left) room (found .result) (found .ensures) (shape image known right .few-tasks) k long h, rw named (ids-small image known right (tasks .count) (tasks .columns) (read .read-tasks .ensures))),
     )
 
