@@ -9,8 +9,8 @@ use Rattle.rules.specs.Patches.{touchedCount, patchedMap}
 use Rattle.preempt.specs.Tasks.{decidedOn}
 use Rattle.patch.specs.declared.carried.Carried.{Carried}
 
--- a cell of row i of a task that is not touched: with a touched task it is decided, and any other is the row's before, at the
--- old place
+-- a cell of row i of a task that is not touched: with a touched task it is decided, and any other is that of the base's row
+-- (before) at the old place
 unfoldable pub cellCarried : List ℕ → ℕ → ℕ → List ℕ → ℕ → ℕ → ℕ → Bool
 cellCarried columns bars touched old before i j = cond (bitAt touched j) (decidedOn columns bars i j) (bitAt before (getD old j 0))
 

@@ -18,8 +18,8 @@ use preempt::columns::Columns;
 use preempt::columns::IDS;
 use preempt::columns::TRANSACTIONS;
 use preempt::columns::column_of;
-use preempt::map::is_decided;
-use preempt::map::row;
+use preempt::map::decided_row;
+use preempt::map::may_preempt_at;
 use preempt::tasks::read_tasks;
 use sets::bits::is_set;
 use sets::bits::with_bit_if;
@@ -74,7 +74,7 @@ fn is_cell_set(bits: u64, place: u32) -> bool
 }
 
 // Whether cell j is set in the new row i of a task that is not touched: with a touched task it is decided, and any other is
-// that of the row before, which has it where the other task stood.
+// that of the base's row (before), which has it where the other task stood.
 fn is_carried_set(
     columns: &Columns,
     bars: u64,
@@ -88,13 +88,13 @@ fn is_carried_set(
     ensures { λ r. ⌜ r ≡ cellCarried (now (columns .entry)) bars touched (now (old .entry)) before i j ⌝ }
 {
     if is_set(touched, j) {
-        return is_decided(columns, bars, i, j);
+        return may_preempt_at(columns, bars, i, j);
     }
     let place = old[j];
     is_cell_set(before, place)
 }
 
-// Row i of the new map from the row before, for a task that is not touched.
+// Row i of the new map from the base's row, for a task that is not touched.
 fn carried_row(
     columns: &Columns,
     count: usize,
@@ -131,7 +131,7 @@ fn new_row(
     ensures { λ r. ⌜ r ≡ rowFrom count (cellNew (now (columns .entry)) bars touched (now (old .entry)) (now (rows .entry)) i) ⌝ }
 {
     if is_set(touched, i) {
-        return row(columns, count, bars, i);
+        return decided_row(columns, count, bars, i);
     }
     let before = row_before(rows, old[i]);
     carried_row(columns, count, bars, touched, old, before, i)

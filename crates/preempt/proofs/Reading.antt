@@ -7,7 +7,7 @@ use lib.ListN.{getD, drop, take-append-drop, drop-of-length-le, List·getD-eq-de
 use lib.Seq.{getD-take, getD-drop, drop-drop}
 use Rattle.rules.specs.declared.Task.{Task}
 use Rattle.rules.specs.Records.{numberOf, secondOf, tasks, taskCount, taskOf, taskAt, periodIn, periodAt}
-use Rattle.rules.specs.Preempt.{barred, decided, cell, mapFrom, mapOf}
+use Rattle.rules.specs.Preempt.{barred as Preempt·barred, decided, cell, mapFrom, mapOf}
 use Rattle.rules.specs.Chains.{sizeAt, idAt, priorityAt}
 use Rattle.rules.proofs.Table.Shape.{Shape}
 use Rattle.rules.proofs.Maps.{cell-of-map, map-ext}
@@ -96,7 +96,7 @@ ids-directory rs count columns shape read =
     }
 
 -- what was read of a table, and of its pairs
-module _ (rs : List (List ℕ)) (count : ℕ) (columns : List ℕ) (forbidden : List ℕ) (shape : Shape rs) (read : TasksRead rs count columns) (pairs-read : forbidden ≡ barredMap rs) where
+module _ (rs : List (List ℕ)) (count : ℕ) (columns : List ℕ) (barred : List ℕ) (shape : Shape rs) (read : TasksRead rs count columns) (pairs-read : barred ≡ barredMap rs) where
   -- the task at a place is the table's
   task-read : (i : ℕ) → i < taskCount rs → taskRead columns i ≡ taskAt rs i
   task-read i h =
@@ -113,14 +113,14 @@ module _ (rs : List (List ℕ)) (count : ℕ) (columns : List ℕ) (forbidden : 
       )
 
   -- a bit of a row is set where the pair of places is barred
-  barred-read : (i j : ℕ) → i < taskCount rs → j < taskCount rs → cell forbidden i j ≡ barred rs (taskAt rs i .id) (taskAt rs j .id)
+  barred-read : (i j : ℕ) → i < taskCount rs → j < taskCount rs → cell barred i j ≡ Preempt·barred rs (taskAt rs i .id) (taskAt rs j .id)
   unfolding barredMap
   barred-read i j h l =
       ap (λ (r : List ℕ). cell r i j) pairs-read
-      ∙ cell-of-map (taskCount rs) (λ i j. barred rs (taskAt rs i .id) (taskAt rs j .id)) i j (shape .few-tasks) h l
+      ∙ cell-of-map (taskCount rs) (λ i j. Preempt·barred rs (taskAt rs i .id) (taskAt rs j .id)) i j (shape .few-tasks) h l
 
   -- the decision from what was read is the table's
-  pub decided-read : (i j : ℕ) → i < taskCount rs → j < taskCount rs → decidedBy columns forbidden i j ≡ decided rs i j
+  pub decided-read : (i j : ℕ) → i < taskCount rs → j < taskCount rs → decidedBy columns barred i j ≡ decided rs i j
   unfolding decidedOn decided
   decided-read i j h l =
       rw (
@@ -131,7 +131,7 @@ module _ (rs : List (List ℕ)) (count : ℕ) (columns : List ℕ) (forbidden : 
       )
 
   -- and so is the map
-  pub map-read : mapFrom count (decidedBy columns forbidden) ≡ mapOf rs
+  pub map-read : mapFrom count (decidedBy columns barred) ≡ mapOf rs
   map-read =
-      ap (λ (n : ℕ). mapFrom n (decidedBy columns forbidden)) (read .count)
-      ∙ map-ext (taskCount rs) (decidedBy columns forbidden) (decided rs) decided-read
+      ap (λ (n : ℕ). mapFrom n (decidedBy columns barred)) (read .count)
+      ∙ map-ext (taskCount rs) (decidedBy columns barred) (decided rs) decided-read

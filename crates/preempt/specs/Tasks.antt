@@ -59,7 +59,7 @@ pub record ColumnsTo (rs : List (List ℕ)) (n : ℕ) (columns : List ℕ) : Typ
   pub thresholds : thresholdColumn columns ≡ column n (λ i. taskAt rs i .threshold)
   pub periods : periodColumn columns ≡ column n (periodAt rs)
 
--- the columns of all tasks of a table, of which there are n
+-- a table has n tasks, and these are their columns
 pub record TasksRead (rs : List (List ℕ)) (n : ℕ) (all : List ℕ) : Type 0 where
   pub count : n ≡ taskCount rs
   pub columns : ColumnsTo rs (taskCount rs) all
@@ -97,4 +97,4 @@ decidedOn columns bars i j = mayPreempt (periodRead columns i) (bitAt bars j) (t
 
 -- the same, from the rows of all that pairs forbid
 abbrev pub decidedBy : List ℕ → List ℕ → ℕ → ℕ → Bool
-decidedBy columns forbidden i = decidedOn columns (getD forbidden i 0) i
+decidedBy columns barred i = decidedOn columns (getD barred i 0) i

@@ -27,7 +27,7 @@ pub const THRESHOLDS: usize = 448;
 
 pub const PERIODS: usize = 512;
 
-// The task at a place.
+// The task at a place, as it was read.
 pub fn task_read(columns: &Columns, i: usize) -> Task
     requires { ⌜ i < 64 ⌝ }
     ensures { λ r. ⌜ r ≡ taskRead (now (columns .entry)) i ⌝ }
@@ -44,7 +44,7 @@ pub fn task_read(columns: &Columns, i: usize) -> Task
     }
 }
 
-// The period of the transaction of the task at a place.
+// The period of its transaction, as it was read.
 pub fn period_read(columns: &Columns, i: usize) -> u32
     requires { ⌜ i < 64 ⌝ }
     ensures { λ r. ⌜ r ≡ periodRead (now (columns .entry)) i ⌝ }

@@ -22,7 +22,7 @@ use sets::bits::with_bit_if;
 use table::table_verdict;
 
 // Whether the task at place i may be preempted by the one at place j; bars holds the places that a pair keeps from it.
-pub fn is_decided(columns: &Columns, bars: u64, i: usize, j: usize) -> bool
+pub fn may_preempt_at(columns: &Columns, bars: u64, i: usize, j: usize) -> bool
     requires { ⌜ (i < 64) × (j < 64) ⌝ }
     ensures { λ r. ⌜ r ≡ decidedOn (now (columns .entry)) bars i j ⌝ }
 {
@@ -32,28 +32,28 @@ pub fn is_decided(columns: &Columns, bars: u64, i: usize, j: usize) -> bool
 }
 
 // Row i of the map: a bit for each task that may preempt the one at place i.
-pub fn row(columns: &Columns, count: usize, bars: u64, i: usize) -> u64
+pub fn decided_row(columns: &Columns, count: usize, bars: u64, i: usize) -> u64
     requires { ⌜ (i < 64) × (count ≤ 64) ⌝ }
     ensures { λ r. ⌜ r ≡ rowFrom count (decidedOn (now (columns .entry)) bars i) ⌝ }
 {
     let mut row: u64 = 0;
     let mut j: usize = 0;
     while j < count {
-        row = with_bit_if(row, j, is_decided(columns, bars, i, j));
+        row = with_bit_if(row, j, may_preempt_at(columns, bars, i, j));
         j += 1;
     }
     row
 }
 
 // The map of the tasks, where the rows of barred say which pairs of places are forbidden.
-pub fn map_of(columns: &Columns, barred: &[u64; 64], count: usize) -> [u64; 64]
+fn map_of(columns: &Columns, barred: &[u64; 64], count: usize) -> [u64; 64]
     requires { ⌜ count ≤ 64 ⌝ }
     ensures { λ r. ⌜ r ≡ mapFrom count (decidedBy (now (columns .entry)) (now (barred .entry))) ⌝ }
 {
     let mut map = [0u64; 64];
     let mut i: usize = 0;
     while i < count {
-        map[i] = row(columns, count, barred[i], i);
+        map[i] = decided_row(columns, count, barred[i], i);
         i += 1;
     }
     map
@@ -72,7 +72,7 @@ pub fn write_rows(map: [u64; 64], lent: &mut [u64])
 }
 
 // The map of an accepted table.
-pub fn table_map(image: &[u8]) -> [u64; 64]
+fn table_map(image: &[u8]) -> [u64; 64]
     requires { ⌜ accepted (tableVerdict (now image)) ≡ true ⌝ }
     ensures { λ r. ⌜ r ≡ mapOf (records (now (image .entry))) ⌝ }
 {

@@ -52,7 +52,7 @@ fn threshold_of(priority: u32, threshold: u32) -> u32
 }
 
 // What a task record says, where its transaction has this period.
-pub fn task_of(period: u32, fields: &[u8]) -> Task
+fn task_of(period: u32, fields: &[u8]) -> Task
     ensures { λ r. ⌜ r ≡ taskOf period (now (fields .entry)) ⌝ }
 {
     let priority = two_bytes(fields, 6);

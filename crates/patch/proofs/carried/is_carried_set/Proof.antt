@@ -8,12 +8,12 @@ use Rattle.patch.proofs.carried.is_carried_set.Tie as tie
 is-set-requires : tie.Need-is-set-requires
 is-set-requires c κs = search needs
 
-is-decided-requires : tie.Need-is-decided-requires
-is-decided-requires c κs = search needs
+may-preempt-at-requires : tie.Need-may-preempt-at-requires
+may-preempt-at-requires c κs = search needs
 
 returns : tie.Need-returns
 unfolding cellCarried
-returns c = rw (sym (c .before .before .is-set .ensures) ∙ c .before .if1 .taken) (c .is-decided .ensures)
+returns c = rw (sym (c .before .before .is-set .ensures) ∙ c .before .if1 .taken) (c .may-preempt-at .ensures)
 
 mul-place : tie.Need-mul-place
 mul-place c = search needs
@@ -33,7 +33,7 @@ is-carried-set-spec =
     tie.close
     (tie.spec
     is-set-requires
-    is-decided-requires
+    may-preempt-at-requires
     returns
     mul-place
     shared-slice-read-place

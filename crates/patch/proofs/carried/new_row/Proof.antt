@@ -26,13 +26,13 @@ row-carried count columns bars touched old rows i untouched = rw untouched
 is-set-requires : tie.Need-is-set-requires
 is-set-requires c κs = search needs
 
-row-requires : tie.Need-row-requires
-row-requires c κs = search needs
+decided-row-requires : tie.Need-decided-row-requires
+decided-row-requires c κs = search needs
 
 returns : tie.Need-returns
 returns c =
     let a = c .before .before .before .before .before .args in
-    c .row .ensures ∙ row-decided (a .count) (a .columns .now) (a .bars) (a .touched) (a .old .now) (a .rows .now) (a .i) (sym (c .before .before .is-set .ensures) ∙ c .before .if1 .taken)
+    c .decided-row .ensures ∙ row-decided (a .count) (a .columns .now) (a .bars) (a .touched) (a .old .now) (a .rows .now) (a .i) (sym (c .before .before .is-set .ensures) ∙ c .before .if1 .taken)
 
 mul-row-before : tie.Need-mul-row-before
 mul-row-before c = search needs
@@ -59,7 +59,7 @@ new-row-spec =
     tie.close
     (tie.spec
     is-set-requires
-    row-requires
+    decided-row-requires
     returns
     mul-row-before
     shared-slice-read-row-before

@@ -16,14 +16,14 @@ abbrev μ-loop : tie.MeasureT-loop
 loop-holds : tie.Need-loop-holds Inv-loop μ-loop
 loop-holds c = filled-none
 
-mul-row : tie.Need-mul-row Inv-loop μ-loop
-mul-row c = search needs
+mul-decided-row : tie.Need-mul-decided-row Inv-loop μ-loop
+mul-decided-row c = search needs
 
-element-copy-out-row : tie.Need-element-copy-out-row Inv-loop μ-loop
-element-copy-out-row c = search needs
+element-copy-out-decided-row : tie.Need-element-copy-out-decided-row Inv-loop μ-loop
+element-copy-out-decided-row c = search needs
 
-row-requires : tie.Need-row-requires Inv-loop μ-loop
-row-requires c κs = search needs
+decided-row-requires : tie.Need-decided-row-requires Inv-loop μ-loop
+decided-row-requires c κs = search needs
 
 mul-map : tie.Need-mul-map Inv-loop μ-loop
 mul-map c = search needs
@@ -38,7 +38,7 @@ loop-less : tie.Need-loop-less Inv-loop μ-loop
 loop-less c = search needs
 
 loop-again : tie.Need-loop-again Inv-loop μ-loop
-loop-again c = filled-more (c .before .before .before .loop .inv) (omega arith) (omega arith) (c .row .ensures)
+loop-again c = filled-more (c .before .before .before .loop .inv) (omega arith) (omega arith) (c .decided-row .ensures)
 
 returns : tie.Need-returns Inv-loop μ-loop
 returns c = filled-all (c .before .loop .inv) (omega arith)
@@ -50,9 +50,9 @@ map-of-spec =
     Inv-loop
     μ-loop
     loop-holds
-    mul-row
-    element-copy-out-row
-    row-requires
+    mul-decided-row
+    element-copy-out-decided-row
+    decided-row-requires
     mul-map
     array-write-map
     add-i

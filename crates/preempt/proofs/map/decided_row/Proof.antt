@@ -4,8 +4,8 @@ use native.Mathlib.Omega.{arith}
 use borrow.Author.Needs.{needs}
 use Rattle.sets.proofs.Choosing.{Chosen, chosen-none, chosen-more, chosen-all}
 use Rattle.preempt.specs.Tasks.{decidedOn}
-use Rattle.preempt.proofs.map.row.Statement.{statement}
-use Rattle.preempt.proofs.map.row.Tie as tie
+use Rattle.preempt.proofs.map.decided_row.Statement.{statement}
+use Rattle.preempt.proofs.map.decided_row.Tie as tie
 
 abbrev Inv-loop : tie.InvT-loop
 Inv-loop columns count bars i row₀ j₀ row j = Chosen (decidedOn columns bars i) count j row
@@ -16,8 +16,8 @@ abbrev μ-loop : tie.MeasureT-loop
 loop-holds : tie.Need-loop-holds Inv-loop μ-loop
 loop-holds c = chosen-none
 
-is-decided-requires : tie.Need-is-decided-requires Inv-loop μ-loop
-is-decided-requires c κs = search needs
+may-preempt-at-requires : tie.Need-may-preempt-at-requires Inv-loop μ-loop
+may-preempt-at-requires c κs = search needs
 
 with-bit-if-requires : tie.Need-with-bit-if-requires Inv-loop μ-loop
 with-bit-if-requires c κs = search needs
@@ -29,19 +29,19 @@ loop-less : tie.Need-loop-less Inv-loop μ-loop
 loop-less c = search needs
 
 loop-again : tie.Need-loop-again Inv-loop μ-loop
-loop-again c = chosen-more (c .before .before .before .loop .inv) (omega arith) (omega arith) (rw (← c .before .is-decided .ensures) (c .with-bit-if .ensures))
+loop-again c = chosen-more (c .before .before .before .loop .inv) (omega arith) (omega arith) (rw (← c .before .may-preempt-at .ensures) (c .with-bit-if .ensures))
 
 returns : tie.Need-returns Inv-loop μ-loop
 returns c = chosen-all (c .before .loop .inv) (omega arith)
 
-pub row-spec : {M : Type 1} → statement M
-row-spec =
+pub decided-row-spec : {M : Type 1} → statement M
+decided-row-spec =
     tie.close
     (tie.spec
     Inv-loop
     μ-loop
     loop-holds
-    is-decided-requires
+    may-preempt-at-requires
     with-bit-if-requires
     add-j
     loop-less

@@ -1,8 +1,8 @@
 -- What is read of the two places is what the decision asks.
 use borrow.Author.Needs.{needs}
 use Rattle.preempt.specs.Tasks.{decidedOn}
-use Rattle.preempt.proofs.map.is_decided.Statement.{statement}
-use Rattle.preempt.proofs.map.is_decided.Tie as tie
+use Rattle.preempt.proofs.map.may_preempt_at.Statement.{statement}
+use Rattle.preempt.proofs.map.may_preempt_at.Tie as tie
 
 task-read-requires : tie.Need-task-read-requires
 task-read-requires c κs = search needs
@@ -25,8 +25,8 @@ returns c =
     rw (← c .before .before .before .before .task-read .ensures, ← c .before .before .before .task-read2 .ensures, ← c .before .before .period-read .ensures, ← c .before .is-set .ensures)
     (c .may-preempt .ensures)
 
-pub is-decided-spec : {M : Type 1} → statement M
-is-decided-spec =
+pub may-preempt-at-spec : {M : Type 1} → statement M
+may-preempt-at-spec =
     tie.close
     (tie.spec
     task-read-requires
