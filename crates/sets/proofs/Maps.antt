@@ -1,4 +1,4 @@
--- Laws of maps: a map is a column of rows, and one more of its cells may be set.
+-- A map is a column of rows, so it is filled as one, and one more cell changes one row.
 use Prim.Native.Nat.{ℕ, _+_, _^_, _≤_, _<_}
 use mathlib.Core.List.{List}
 use mathlib.Core.Bool.{Bool, false, cond, _&&_, _||_}

@@ -1,5 +1,4 @@
-// What is made of sets of places: what two share and what one has outside another, both together, the lowest place, a set
-// without it, all below a count and those with a number; and a place to index with.
+// Operations on sets of places, and a place to index with.
 ghost use mathlib.Core.Path.{_≡_};
 ghost use mathlib.Core.Bool.{true};
 ghost use Prim.Native.Nat.{_≤_, _<_};

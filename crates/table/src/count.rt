@@ -46,7 +46,7 @@ pub fn tally(image: &[u8]) -> [u32; 8]
     counts
 }
 
-// The number of the first record of at least this kind, or of all records where there is none. No kind is below 1 or above 3;
+// The number of the first record of at least this kind, or how many records there are where none is. No kind is below 1 or above 3;
 // between them it is looked for by halving, as kinds do not fall.
 fn kind_start(image: &[u8], kind: u32) -> usize
     requires { ⌜ accepted (recordsVerdict Table (records (now image))) ≡ true ⌝ }

@@ -1,10 +1,8 @@
 -- The loop keeps that the ids of the places passed are written over the start of the room.
-use mathlib.Core.List.{List}
-use lib.ListN.{set}
 use Prim.Native.Nat.{ℕ, _-_, _≤_}
-use mathlib.Core.List.{map}
+use mathlib.Core.List.{List, map}
 use mathlib.Core.Path.{_≡_, ap, _∙_}
-use lib.ListN.{length, getD, take, length-set}
+use lib.ListN.{length, getD, set, take, length-set}
 use Rattle.rules.specs.Calls.{over}
 use Rattle.stack.proofs.Writing.{mapped-next}
 use native.Mathlib.Omega.{arith}
