@@ -6,7 +6,7 @@ use native.Mathlib.Nat.{pow-suc, div-eq-of-lt, add-mul-div-right, add-zero, zero
 use native.Mathlib.Omega.{arith}
 use borrow.Author.Tests.{ltb-true, ltb-false, eq-eqb, ne-eqb, eqb-true, eqb-false}
 use lib.Bits.{bitOr, bitAnd, or-shr, or-step, and-shr, and-step}
-use lib.Pow.{pow-pos, pow-mono, pow-add, pow-lt, high, shr-shr, shl-exact}
+use lib.Pow.{pow-pos, pow-add, pow-lt, high, shr-shr, shl-exact}
 use lib.Dec.{ltb, eqb}
 use Rattle.rules.specs.Numbers.{sumTo}
 use Rattle.rules.specs.Preempt.{bitAt}
@@ -101,12 +101,6 @@ bits-more set n e = sumTo-step (λ j. cond (set j) (2 ^ j) 0) n ∙ rw e
 
 pub bits-same : (set : ℕ → Bool) (n : ℕ) → set n ≡ false → bitsTo set (n + 1) ≡ bitsTo set n
 bits-same set n e = sumTo-step (λ j. cond (set j) (2 ^ j) 0) n ∙ rw e (add-zero (bitsTo set n))
-
--- there is room for one more of 64 bits
-pub bits-room : (set : ℕ → Bool) (n : ℕ) → n < 64 → bitsTo set n + 2 ^ n < 18446744073709551616
-bits-room set n h =
-    let most : 2 ^ suc n ≤ 2 ^ 64 = pow-mono {j = 64} (omega arith) in
-    omega (arith, most, pow-suc 2 n, bits-small set n)
 
 -- where no bit is set from n on, those below n are all
 pub bits-end : (set : ℕ → Bool) (n m : ℕ) → n ≤ m → ((j : ℕ) → n ≤ j → set j ≡ false) → bitsTo set m ≡ bitsTo set n

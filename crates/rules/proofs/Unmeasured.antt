@@ -1,6 +1,6 @@
 -- Jitters that are not measured: each is read as the period of its task's transaction, and every distance is below that.
 use Prim.Native.Nat.{ℕ, _+_, _-_, _<_}
-use mathlib.Core.List.{List, []}
+use mathlib.Core.List.{List}
 use mathlib.Core.Bool.{Bool, true, false, cond, _&&_, not}
 use mathlib.Core.Path.{_≡_, refl, ap, sym, _∙_}
 use native.Mathlib.Nat.{mod-lt}

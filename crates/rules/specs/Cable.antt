@@ -8,7 +8,7 @@ use Rattle.rules.specs.declared.Form.{Form}
 use Rattle.rules.specs.declared.Form.the-variants.{Table, Patch}
 use Rattle.rules.specs.declared.Bounds.{Bounds}
 use Rattle.rules.specs.Refusals.{accepted, refusal, tableVerdict, patchVerdict}
-use Rattle.rules.specs.Calls.{mapVerdict, mapAfter, boundRefusal, BoundCall, reasonRefusal, reasonAnswer, patchCallVerdict, patchAnswer, roomAfter, patchedAfter, offending, reverseRefusal, reverseAnswer, reverseAfter}
+use Rattle.rules.specs.Calls.{mapVerdict, mapAfter, boundRefusal, BoundCall, reasonRefusal, reasonAnswer, patchCallVerdict, patchRefusal, patchAnswer, roomAfter, patchedAfter, offending, reverseRefusal, reverseAnswer, reverseAfter}
 
 -- bytes i and i + 1 changed over with each other
 abbrev pub changedOver : List ℕ → ℕ → List ℕ
@@ -18,7 +18,7 @@ changedOver image i = set (set image i (getD image (i + 1) 0)) (i + 1) (getD ima
 abbrev pub PatchCallRefused : ℕ → ℕ → List ℕ → List ℕ → List ℕ → List ℕ → List ℕ → Type 0
 PatchCallRefused n p base patch rows room newRows =
     let v = patchCallVerdict base patch rows room newRows in
-    (patchAnswer v base patch ≡ record { number = n; place = p; touched = 0; length = 0 })
+    (patchAnswer v base patch ≡ patchRefusal (refusal n p))
     × (offending v patch ≡ [])
     × (roomAfter v base patch room ≡ room)
     × (patchedAfter v base patch rows newRows ≡ newRows)

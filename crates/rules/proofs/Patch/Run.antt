@@ -141,16 +141,10 @@ pub record Afresh (s : State) : Type 0 where
   pub long : 64 ≤ length lent
   pub state : s ≡ afresh table lent
 
--- in such a state
-module _ (s : State) (a : Afresh s) where
-  -- the image is a valid table's
-  pub afresh-accepted : accepted (tableVerdict (s .image)) ≡ true
-  afresh-accepted = ap (λ (t : State). accepted (tableVerdict (t .image))) (a .state) ∙ ap accepted (table-of-valid (a .table) (a .valid))
-
-  -- and the rows are its true map
-  pub afresh-true : s .rows ≡ over (mapOf (records (s .image))) (s .rows)
-  afresh-true =
-      rw (a .state, records-imageOf Table (a .table) (a .valid .sized)) (over-again (a .table) (a .lent))
+-- in such a state the rows are the true map of the image
+pub afresh-true : (s : State) → Afresh s → s .rows ≡ over (mapOf (records (s .image))) (s .rows)
+afresh-true s a =
+    rw (a .state, records-imageOf Table (a .table) (a .valid .sized)) (over-again (a .table) (a .lent))
 
 -- each run, worked out afresh, ends in such a state
 pub afresh-after : (rs : List (List ℕ)) (rows : List ℕ) (ps : List Step) → Valid rs → 64 ≤ length rows → Afresh (afreshAfter rs rows ps)

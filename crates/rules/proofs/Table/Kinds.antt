@@ -213,12 +213,6 @@ module _ (rs : List (List ℕ)) (split : Split rs) where
       ∙ rw add-assoc (getD-append-add (transactions rs) (tasks rs ++ pairs rs) (taskCount rs + i) [])
       ∙ getD-append-add (tasks rs) (pairs rs) i []
 
-  -- so the records at those places are of kind 1, 2 and 3
-  pub transaction-kind : (i : ℕ) → i < length (transactions rs) → kindOf (getD rs i []) ≡ 1
-  transaction-kind i h = rw (transaction-at i h) (kind-ofKind 1 rs i h)
-
+  -- so the records at the tasks' places are of kind 2
   pub task-kind : (i : ℕ) → i < taskCount rs → kindOf (getD rs (length (transactions rs) + i) []) ≡ 2
   task-kind i h = rw (task-at i h) (kind-ofKind 2 rs i h)
-
-  pub pair-kind : (i : ℕ) → i < length (pairs rs) → kindOf (getD rs (length (transactions rs) + taskCount rs + i) []) ≡ 3
-  pair-kind i h = rw (pair-at i h) (kind-ofKind 3 rs i h)

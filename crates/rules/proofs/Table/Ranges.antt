@@ -8,7 +8,7 @@ use borrow.Author.Tests.{leb-true, eq-eqb, ne-eqb, not-false}
 use lib.ListN.{getD}
 use lib.Dec.{leb, eqb}
 use Rattle.rules.specs.Numbers.{Bytes, le2, le4, between}
-use Rattle.rules.specs.Records.{kindOf, numberOf, secondOf, thresholdOf, transactionRight, nameRight, jitterRight, timeRight, thresholdRight, taskRight, pairRight, rangeWrong}
+use Rattle.rules.specs.Records.{kindOf, numberOf, secondOf, thresholdOf, nameRight, jitterRight, timeRight, thresholdRight, taskRight, rangeWrong}
 use Rattle.rules.proofs.Numbers.{either}
 use Rattle.rules.proofs.Tests.{both-first, both-second}
 
@@ -23,22 +23,11 @@ between-least low x high h = leb-true low x (both-first (leb low x) (leb x high)
 pub between-most : (low x high : ℕ) → between low x high ≡ true → x ≤ high
 between-most low x high h = leb-true x high (both-second (leb low x) (leb x high) h)
 
--- a record that is not found out of range passes the test of its kind
-module _ (r : List ℕ) (right : rangeWrong r ≡ false) where
-  pub transaction-right : kindOf r ≡ 1 → transactionRight r ≡ true
-  unfolding rangeWrong
-  transaction-right e = not-false (transactionRight r) (rw (eq-eqb (kindOf r) 1 e) at right)
-
-  pub task-right : kindOf r ≡ 2 → taskRight r ≡ true
-  unfolding rangeWrong
-  task-right e =
-      not-false (taskRight r) (rw (ne-eqb (kindOf r) 1 (λ o. omega arith), eq-eqb (kindOf r) 2 e) at right)
-
-  pub pair-right : kindOf r ≡ 3 → pairRight r ≡ true
-  unfolding rangeWrong
-  pair-right e =
-      not-false (pairRight r)
-      (rw (ne-eqb (kindOf r) 1 (λ o. omega arith), ne-eqb (kindOf r) 2 (λ o. omega arith)) at right)
+-- a task that is not found out of range passes its test
+pub task-right : (r : List ℕ) → rangeWrong r ≡ false → kindOf r ≡ 2 → taskRight r ≡ true
+unfolding rangeWrong
+task-right r right e =
+    not-false (taskRight r) (rw (ne-eqb (kindOf r) 1 (λ o. omega arith), eq-eqb (kindOf r) 2 e) at right)
 
 -- the ranges of a task's fields
 pub record TaskRanges (r : List ℕ) : Type 0 where

@@ -12,17 +12,17 @@ use Rattle.rules.specs.declared.Form.the-variants.{Table}
 use Rattle.rules.specs.declared.Verdict.{Verdict}
 use Rattle.rules.specs.Numbers.{Bytes, between}
 use Rattle.rules.specs.Blocks.{recordStart, recordAt, recordCount, records}
-use Rattle.rules.specs.Records.{ofKind, kindOf, numberOf, wayOf, key, imageKey, mostOf, zeroBytes, formWrong, rangeWrong, transactionRight, taskRight, pairRight, transactions, tasks, pairs, taskCount, countOf, tooMany}
+use Rattle.rules.specs.Records.{ofKind, kindOf, numberOf, wayOf, key, imageKey, mostOf, zeroBytes, formWrong, rangeWrong, taskRight, transactions, tasks, pairs, taskCount, countOf, tooMany}
 use Rattle.rules.specs.Refusals.{accepted, fine, orElse, refuseIf, numbered, formRefusal, orderWrong, orderRefusal, rangeRefusal, countRefusal, recordsVerdict}
 use Rattle.rules.proofs.Numbers.{either, length-upTo, getD-upTo}
 use Rattle.rules.proofs.Bytes.{part-bytes}
 use Rattle.rules.proofs.Tests.{neither-first, neither-second}
 use Rattle.rules.proofs.Refusals.{numbered-some, accepted-first, accepted-second, fine-both, no-fault, no-fault-at, fine-at}
-use Rattle.rules.proofs.Table.Kinds.{Known, Grouped, Split, split-of, length-split, transaction-at, task-at, pair-at, transaction-kind, task-kind, pair-kind, count-ofKind, ofKind-all}
-use Rattle.rules.proofs.Table.Ranges.{between-least, between-most, transaction-right, task-right, pair-right}
+use Rattle.rules.proofs.Table.Kinds.{Known, Grouped, Split, split-of, length-split, task-at, task-kind, count-ofKind, ofKind-all}
+use Rattle.rules.proofs.Table.Ranges.{between-least, between-most, task-right}
 use Rattle.rules.proofs.Table.Order.{Rises, rises-of-next, order-right, kind-rises, numbers-rise}
 
--- the records of a table: transactions, tasks and pairs, not too many, in order and in range, with byte 31 at 0
+-- the records of a table: transactions, tasks and pairs, not too many and in order, tasks in range, with byte 31 at 0
 pub record Shape (rs : List (List ℕ)) : Type 0 where
   pub split : Split rs
   pub few-transactions : length (transactions rs) ≤ 16
@@ -31,9 +31,7 @@ pub record Shape (rs : List (List ℕ)) : Type 0 where
   pub keys-rise : Rises key rs
   pub transactions-rise : Rises numberOf (transactions rs)
   pub tasks-rise : Rises numberOf (tasks rs)
-  pub transactions-right : (i : ℕ) → i < length (transactions rs) → transactionRight (getD (transactions rs) i []) ≡ true
   pub tasks-right : (i : ℕ) → i < taskCount rs → taskRight (getD (tasks rs) i []) ≡ true
-  pub pairs-right : (i : ℕ) → i < length (pairs rs) → pairRight (getD (pairs rs) i []) ≡ true
   pub ways : (k : ℕ) → wayOf (getD rs k []) ≡ 0
 
 -- refusals 4 to 7 find no fault in these records of a table or a patch
@@ -168,15 +166,9 @@ module _ (rs : List (List ℕ)) (bytes : (k : ℕ) → Bytes (getD rs k [])) (f 
   split : Split rs
   split = split-of rs (faultless-known rs f) grouped
 
-  -- the place of each record of a kind is in the list
-  transaction-here : (i : ℕ) → i < length (transactions rs) → i < length rs
-  transaction-here i l = omega (arith, length-split rs split)
-
+  -- the place of each task is in the list
   task-here : (i : ℕ) → i < taskCount rs → length (transactions rs) + i < length rs
   task-here i l = omega (arith, length-split rs split)
-
-  pair-here : (i : ℕ) → i < length (pairs rs) → length (transactions rs) + taskCount rs + i < length rs
-  pair-here i l = omega (arith, length-split rs split)
 
   -- the shape
   pub shape-of-faultless : Shape rs
@@ -189,19 +181,10 @@ module _ (rs : List (List ℕ)) (bytes : (k : ℕ) → Bytes (getD rs k [])) (f 
         keys-rise = faultless-rises rs f;
         transactions-rise = numbers-rise 1 rs (omega arith) (faultless-rises rs f);
         tasks-rise = numbers-rise 2 rs (omega arith) (faultless-rises rs f);
-        transactions-right =
-            λ i l.
-            rw (← transaction-at rs split i l)
-            (transaction-right (getD rs i []) (f .ranges i (transaction-here i l)) (transaction-kind rs split i l));
         tasks-right =
             λ i l.
             rw (← task-at rs split i l)
             (task-right (getD rs (length (transactions rs) + i) []) (f .ranges (length (transactions rs) + i) (task-here i l)) (task-kind rs split i l));
-        pairs-right =
-            λ i l.
-            rw (← pair-at rs split i l)
-            (pair-right (getD rs (length (transactions rs) + taskCount rs + i) [])
-            (f .ranges (length (transactions rs) + taskCount rs + i) (pair-here i l)) (pair-kind rs split i l));
         ways = faultless-ways rs f;
       }
 
