@@ -14,8 +14,8 @@ use Rattle.rules.proofs.Table.Shape.{Shape}
 use Rattle.sets.specs.Places.{Below}
 use Rattle.preempt.specs.Tasks.{TasksRead, idColumn, transactionColumn, priorityColumn, sizeColumn, thresholdColumn}
 use Rattle.preempt.proofs.Reading.{id-is, transaction-is, priority-is, size-is, threshold-is}
+use Rattle.ceiling.specs.Near.{sizeOf}
 use Rattle.stack.specs.declared.call.Found.{Found}
-use Rattle.stack.specs.Paths.{sizeIn}
 use Rattle.stack.specs.Levels.{levelsOf}
 use Rattle.stack.specs.Figures.{ownTask, OwnPaths, figuresIn, FoundOver, FoundFor}
 use Rattle.rules.specs.Chains.{weight, Chain, Path, All, Before, Largest, Heaviest, related, sizeAt, idAt, priorityAt, inTransaction, TransactionBound, levelBound}
@@ -86,7 +86,7 @@ largest-all n R cover S r below h =
     everywhere (i ∷ c) w = (true-T (bitAt cover i) (below i ∙ lt-ltb i n (w .0)), everywhere c (w .1))
 
 module _ (rs : List (List ℕ)) (lent : List ℕ) (count : ℕ) (columns : List ℕ) (shape : Shape rs) (read : TasksRead rs count columns) where
-  sizes-same : sizeIn (sizeColumn columns) ≡ sizeAt rs
+  sizes-same : sizeOf (sizeColumn columns) ≡ sizeAt rs
   sizes-same = fun-ext (size-is rs count columns shape read)
 
   priorities-same : (λ (i : ℕ). getD (priorityColumn columns) i 0) ≡ priorityAt rs
@@ -108,7 +108,7 @@ module _ (rs : List (List ℕ)) (lent : List ℕ) (count : ℕ) (columns : List 
       cells i j ∙ rw (read .count, threshold-is rs count columns shape read i, priority-is rs count columns shape read j)))
 
   module _ (rows : List ℕ) (same : cell rows ≡ related rs lent) where
-    chain-found : (c : List ℕ) → Heaviest count (cell rows) (sizeIn (sizeColumn columns)) (λ i. i) c
+    chain-found : (c : List ℕ) → Heaviest count (cell rows) (sizeOf (sizeColumn columns)) (λ i. i) c
         → Heaviest (taskCount rs) (related rs lent) (sizeAt rs) (idAt rs) c
     chain-found c h =
         heaviest-ids (taskCount rs) (related rs lent) (sizeAt rs) (idAt rs) c (shape .tasks-rise)
@@ -117,7 +117,7 @@ module _ (rs : List (List ℕ)) (lent : List ℕ) (count : ℕ) (columns : List 
         (subst (λ (S : ℕ → ℕ). Heaviest count (cell rows) S (λ i. i) c) sizes-same h)))
 
     -- a bound over lists of the rows is one over lists of the relation
-    over-relation : (Lists : ℕ → (ℕ → ℕ → Bool) → List ℕ → Type 0) (r : ℕ) → Largest (Lists count (cell rows)) (weight (sizeIn (sizeColumn columns))) r
+    over-relation : (Lists : ℕ → (ℕ → ℕ → Bool) → List ℕ → Type 0) (r : ℕ) → Largest (Lists count (cell rows)) (weight (sizeOf (sizeColumn columns))) r
         → Largest (Lists (taskCount rs) (related rs lent)) (weight (sizeAt rs)) r
     over-relation Lists r h =
         subst (λ (n : ℕ). Largest (Lists n (related rs lent)) (weight (sizeAt rs)) r) (read .count)
@@ -141,7 +141,7 @@ module _ (rs : List (List ℕ)) (lent : List ℕ) (count : ℕ) (columns : List 
 
   levels-found : levelsOf (priorityColumn columns) (sizeColumn columns) count ≡ levelBound rs
   levels-found =
-      ap (λ (P : ℕ → ℕ). levelSum P (sizeIn (sizeColumn columns)) count) priorities-same
+      ap (λ (P : ℕ → ℕ). levelSum P (sizeOf (sizeColumn columns)) count) priorities-same
       ∙ ap (λ (S : ℕ → ℕ). levelSum (priorityAt rs) S count) sizes-same
       ∙ ap (levelSum (priorityAt rs) (sizeAt rs)) (read .count)
 

@@ -18,8 +18,9 @@ use Rattle.rules.proofs.Table.Order.{Rises, one-with}
 use Rattle.rules.proofs.FourBounds.Total.{total-within, own-paths≤total}
 use Rattle.sets.specs.Bits.{hasNumber}
 use Rattle.sets.specs.Places.{Inside}
+use Rattle.ceiling.specs.Near.{sizeOf}
 use Rattle.stack.specs.Setting.{Ready}
-use Rattle.stack.specs.Paths.{sizeIn, PathBound}
+use Rattle.stack.specs.Paths.{PathBound}
 use Rattle.stack.specs.Figures.{ownTask, OwnPaths}
 use Rattle.stack.proofs.Figures.{largest-as}
 
@@ -31,9 +32,9 @@ members-inside numbers count number set most members j h =
 -- the path bound inside a transaction's members is that of its own tasks
 pub members-own : (n : ℕ) (rows sizes numbers : List ℕ) (listed : List (List ℕ)) (t number set r : ℕ) → number ≡ numberOf (getD listed t [])
     → n ≤ 64 → set ≡ rowFrom n (hasNumber numbers number) → PathBound n rows sizes set r
-    → Largest (λ c. Path n (cell rows) c × All (ownTask numbers listed t) c) (weight (sizeIn sizes)) r
+    → Largest (λ c. Path n (cell rows) c × All (ownTask numbers listed t) c) (weight (sizeOf sizes)) r
 members-own n rows sizes numbers listed t number set r here most members bound =
-    largest-as n (cell rows) (bitAt set) (ownTask numbers listed t) (sizeIn sizes) r
+    largest-as n (cell rows) (bitAt set) (ownTask numbers listed t) (sizeOf sizes) r
     (λ i h. rw (members, row-at n (hasNumber numbers number) i most, lt-ltb i n h, here)) bound
 
 module _ (n : ℕ) (rows sizes numbers : List ℕ) (listed : List (List ℕ)) where
@@ -42,7 +43,7 @@ module _ (n : ℕ) (rows sizes numbers : List ℕ) (listed : List (List ℕ)) wh
 
   -- one more transaction adds its own bound
   pub own-more : (t total r : ℕ) → OwnPaths n rows sizes numbers listed t total
-      → Largest (λ c. Path n (cell rows) c × All (ownTask numbers listed t) c) (weight (sizeIn sizes)) r
+      → Largest (λ c. Path n (cell rows) c × All (ownTask numbers listed t) c) (weight (sizeOf sizes)) r
       → OwnPaths n rows sizes numbers listed (t + 1) (total + r)
   own-more t total r own more =
       record {
@@ -91,7 +92,7 @@ module _ {n : ℕ} {rows sizes order : List ℕ} (ready : Ready n rows sizes ord
       omega (
         arith,
         own .total,
-        own-paths≤total n (cell rows) (sizeIn sizes) (λ i. n - lowest (at i) n) rises-from-end (ownTask numbers listed) m (own .each)
+        own-paths≤total n (cell rows) (sizeOf sizes) (λ i. n - lowest (at i) n) rises-from-end (ownTask numbers listed) m (own .each)
             (λ i t u h k l. one-with listed rise (getD numbers i 0) t u (omega arith) (omega arith)) (own .bound),
-        total-within (sizeIn sizes) n (ready .arrays .few) (ready .arrays .light),
+        total-within (sizeOf sizes) n (ready .arrays .few) (ready .arrays .light),
       )

@@ -14,8 +14,9 @@ use Rattle.rules.specs.Chains.{weight, Path, All}
 use Rattle.rules.proofs.Numbers.{either, never}
 use Rattle.rules.proofs.Tests.{both-first, both-second, T-true, true-T}
 use Rattle.sets.specs.Places.{Without, Shared, Inside}
+use Rattle.ceiling.specs.Near.{sizeOf}
 use Rattle.stack.specs.Setting.{Ready}
-use Rattle.stack.specs.Paths.{sizeIn, LargestAt, PathFrom, PathSums, PathBound}
+use Rattle.stack.specs.Paths.{LargestAt, PathFrom, PathSums, PathBound}
 use Rattle.rules.proofs.Bits.{bit-none}
 use Rattle.sets.proofs.Sets.{without-inside, without-outside, lowest-has}
 
@@ -70,7 +71,7 @@ largest-light most largest light =
 module _ (n : ℕ) (rows sizes : List ℕ) (cover : ℕ) where
   -- a place's own sum, where those of all that may preempt it are settled
   settle : {higher i r : ℕ} {sums : List ℕ} → i < n → bitAt cover i ≡ true → Shared (getD rows i 0) cover higher → LargestAt sums higher r
-      → ((j : ℕ) → bitAt cover j ≡ true → T (cell rows i j) → PathFrom n rows sizes cover j (getD sums j 0)) → PathFrom n rows sizes cover i (sizeIn sizes i + r)
+      → ((j : ℕ) → bitAt cover j ≡ true → T (cell rows i j) → PathFrom n rows sizes cover j (getD sums j 0)) → PathFrom n rows sizes cover i (sizeOf sizes i + r)
   settle {higher} {i} {r} {sums} below there meet largest settled =
       record {
         reached =
@@ -85,7 +86,7 @@ module _ (n : ℕ) (rows sizes : List ℕ) (cover : ℕ) where
         most = most′;
       }
     where
-      most′ : (c : List ℕ) → Path n (cell rows) (i ∷ c) × All (bitAt cover) (i ∷ c) → weight (sizeIn sizes) (i ∷ c) ≤ sizeIn sizes i + r
+      most′ : (c : List ℕ) → Path n (cell rows) (i ∷ c) × All (bitAt cover) (i ∷ c) → weight (sizeOf sizes) (i ∷ c) ≤ sizeOf sizes i + r
       most′ [] h = omega arith
       most′ (j ∷ c) (path, all) =
           let inside = T-true (bitAt cover j) (all .1 .0) in
@@ -108,7 +109,7 @@ module _ (n : ℕ) (rows sizes : List ℕ) (cover : ℕ) where
         most = most′;
       }
     where
-      most′ : (c : List ℕ) → Path n (cell rows) c × All (bitAt cover) c → weight (sizeIn sizes) c ≤ r
+      most′ : (c : List ℕ) → Path n (cell rows) c × All (bitAt cover) c → weight (sizeOf sizes) c ≤ r
       most′ [] h = omega arith
       most′ (j ∷ c) h =
           let inside = T-true (bitAt cover j) (h .1 .0) in
@@ -190,11 +191,11 @@ module _ {n : ℕ} {rows sizes order : List ℕ} {cover : ℕ} (ready : Ready n 
   -- the next place of the order is in the rest: its sum is settled now
   pub underway-take : {before sums : List ℕ} {rest k higher r smaller : ℕ} → Underway n rows sizes order cover before sums rest k → k < n → bitAt rest (getD order k 0) ≡ true
       → Shared (getD rows (getD order k 0) 0) cover higher → LargestAt sums higher r → Without rest (getD order k 0) smaller
-      → Underway n rows sizes order cover before (set-at sums (getD order k 0) (sizeIn sizes (getD order k 0) + r)) smaller (k + 1)
+      → Underway n rows sizes order cover before (set-at sums (getD order k 0) (sizeOf sizes (getD order k 0) + r)) smaller (k + 1)
   underway-take {before} {sums} {rest} {k} {higher} {r} {smaller} so-far below there meet largest taken =
       let i : ℕ = getD order k 0 in
       let place : i < n = ready .places k below in
-      let sum : ℕ = sizeIn sizes i + r in
+      let sum : ℕ = sizeOf sizes i + r in
       let same = getD-set-same sums i sum 0 (omega (arith, so-far .room, ready .arrays .few)) in
       record {
         count = omega arith;

@@ -9,8 +9,8 @@ use Rattle.rules.specs.Numbers.{sumTo}
 use Rattle.rules.specs.Records.{numberOf}
 use Rattle.rules.specs.Preempt.{cell}
 use Rattle.rules.specs.Chains.{weight, Path, All, Largest, Heaviest, Figures, FiguresOf, chainBound}
+use Rattle.ceiling.specs.Near.{sizeOf}
 use Rattle.stack.specs.declared.call.Found.{Found}
-use Rattle.stack.specs.Paths.{sizeIn}
 use Rattle.stack.specs.Levels.{levelsOf}
 
 -- the place's number is that of listed record t
@@ -21,7 +21,7 @@ ownTask numbers listed t i = eqb (getD numbers i 0) (numberOf (getD listed t [])
 pub record OwnPaths (n : ℕ) (rows sizes numbers : List ℕ) (listed : List (List ℕ)) (count r : ℕ) : Type 0 where
   pub each : ℕ → ℕ
   pub bound :
-      (t : ℕ) → t < count → Largest (λ c. Path n (cell rows) c × All (ownTask numbers listed t) c) (weight (sizeIn sizes)) (each t)
+      (t : ℕ) → t < count → Largest (λ c. Path n (cell rows) c × All (ownTask numbers listed t) c) (weight (sizeOf sizes)) (each t)
   pub total : r ≡ sumTo each count
 
 -- the figures that were found, with the chain by places
@@ -36,10 +36,10 @@ figuresIn found =
 
 -- what was found over the rows of the relation, the sizes, the priorities and the numbers of the tasks' transactions
 pub record FoundOver (n : ℕ) (rows sizes priorities numbers : List ℕ) (listed : List (List ℕ)) (found : Found) : Type 0 where
-  pub heaviest : Heaviest n (cell rows) (sizeIn sizes) (λ i. i) (figuresIn found .chain)
-  pub weighs : found .chain ≡ weight (sizeIn sizes) (figuresIn found .chain)
+  pub heaviest : Heaviest n (cell rows) (sizeOf sizes) (λ i. i) (figuresIn found .chain)
+  pub weighs : found .chain ≡ weight (sizeOf sizes) (figuresIn found .chain)
   pub room : found .length ≤ 64
-  pub path : Largest (Path n (cell rows)) (weight (sizeIn sizes)) (found .path)
+  pub path : Largest (Path n (cell rows)) (weight (sizeOf sizes)) (found .path)
   pub own : OwnPaths n rows sizes numbers listed (length listed) (found .transactions)
   pub levels : found .levels ≡ levelsOf priorities sizes n
 

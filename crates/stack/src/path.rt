@@ -2,8 +2,9 @@
 ghost use Rattle.rules.specs.Preempt.{cell};
 ghost use Rattle.rules.specs.Chains.{weight, Path, Largest};
 ghost use Rattle.sets.specs.Places.{Inside};
+ghost use Rattle.ceiling.specs.Near.{sizeOf};
 ghost use Rattle.stack.specs.Setting.{Ready};
-ghost use Rattle.stack.specs.Paths.{sizeIn, LargestAt, PathSums};
+ghost use Rattle.stack.specs.Paths.{LargestAt, PathSums};
 use sets::bits::is_set;
 use sets::places::all_below;
 use sets::places::index_of;
@@ -60,7 +61,7 @@ pub fn path_sums(
 // The largest sum over paths of all tasks.
 pub fn path_bound(rows: &[u64], sizes: &[u32], order: &[u8], count: usize) -> u32
     requires { ⌜ Ready count (now rows) (now sizes) (now order) ⌝ }
-    ensures { λ r. ⌜ Largest (Path count (cell (now (rows .entry)))) (weight (sizeIn (now (sizes .entry)))) r ⌝ }
+    ensures { λ r. ⌜ Largest (Path count (cell (now (rows .entry)))) (weight (sizeOf (now (sizes .entry)))) r ⌝ }
 {
     let all = all_below(count);
     let none = [0u32; 64];

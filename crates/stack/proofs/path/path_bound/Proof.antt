@@ -2,7 +2,7 @@
 use mathlib.Core.Path.{sym, _∙_}
 use borrow.Author.Tests.{ltb-true}
 use Rattle.rules.specs.Preempt.{cell}
-use Rattle.stack.specs.Paths.{sizeIn}
+use Rattle.ceiling.specs.Near.{sizeOf}
 use Rattle.stack.proofs.Sums.{sums-bound}
 use Rattle.stack.proofs.Figures.{largest-all}
 use borrow.Author.Needs.{needs}
@@ -23,7 +23,7 @@ returns c =
     let made = c .before .before in
     let a = made .before .before .before .before .before .args in
     let all = made .before .all-below .result in
-    largest-all (a .count) (cell (a .rows .now)) all (sizeIn (a .sizes .now)) (c .largest-at .result) (made .before .all-below .ensures)
+    largest-all (a .count) (cell (a .rows .now)) all (sizeOf (a .sizes .now)) (c .largest-at .result) (made .before .all-below .ensures)
     (sums-bound (a .count) (a .rows .now) (a .sizes .now) all (made .path-sums .ensures) (c .largest-at .ensures))
 
 pub path-bound-spec : {M : Type 1} → statement M
