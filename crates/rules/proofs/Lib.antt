@@ -1,5 +1,6 @@
 pub mod Numbers
 pub mod Tests
+pub mod Reach
 pub mod Bytes
 pub mod Bits
 pub mod Maps

@@ -2,6 +2,7 @@ pub mod Numbers
 pub mod Blocks
 pub mod Records
 pub mod Reasons
+pub mod Reach
 pub mod Preempt
 pub mod Chains
 pub mod Execution
