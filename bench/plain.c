@@ -5,6 +5,7 @@
 #include <string.h>
 
 #include "plain/image.c"
+#include "plain/sets.c"
 #include "plain/table.c"
 #include "plain/map.c"
 #include "plain/reason.c"

@@ -13,12 +13,12 @@
  * - A call takes stack, at most so many bytes of it, as tools/stack-use reads off the two archives:
  *
  *                           x86-64       Arm
- *     siodlomil_map            5,816     5,824
- *     siodlomil_bounds        50,840    47,696
- *     siodlomil_reason         1,136       944
- *     siodlomil_patch         37,432    37,456
+ *     siodlomil_map            6,328     6,368
+ *     siodlomil_bounds        50,824    47,696
+ *     siodlomil_reason         1,680     1,520
+ *     siodlomil_patch         37,912    37,936
  *     siodlomil_reverse       21,792    21,776
- *     siodlomil_offending      1,184     1,024
+ *     siodlomil_offending      1,696     1,568
  *
  *   To that come what memcpy and memset use and up to 160 bytes: arguments that have no register, and on Arm the inline
  *   function at the end of this header where a compiler does not put it in line.
@@ -53,6 +53,9 @@
  * A jitter of 4,294,967,295 is missing, not measured, and is read as the period of the task's transaction. A threshold of 0
  * is read as the task's priority. A larger priority is more urgent; once started, a task is preempted only by tasks of a
  * priority above its threshold. The way of a patch's record is 0 where it is taken out and 1 where it is put in.
+ * A one-way pair says that its first task is not preempted by its second. A precedence pair says that its first task comes
+ * before its second. A task comes before another where a path of one or more precedence pairs leads from it to the other; of
+ * two such tasks neither is preempted by the other, named in one pair or not. No path leads through a one-way pair.
  *
  * Refusals. Checks run in the order that each function names; each runs over the whole image before the next, and the
  * lowest place wins. Blocks and records are counted from 0 through the image.
@@ -67,8 +70,9 @@
  *   7       kind           too many of a kind: 16 transactions, 64 tasks, 256 pairs
  *   8       record         transaction or task not listed, or offset not below the period
  *   9       patch record   a record to take out is not in the base, byte for byte
- *   10      0              the outcome of a patch breaks order, 7 or 8
+ *   10      0              the outcome of a patch breaks order, 7, 8 or 14
  *   11      0              a lent map or room is too short
+ *   14      task id        a task comes before itself; the lowest id of such a task
  *   15      0              an id that is asked for is not listed
  *   21-27   as for 1-7     1 to 7 for a patch: 23,040 bytes at most (21); byte 31 of a record neither 0 nor 1 (24); too many
  *                          taken out, or too many put in (27)
@@ -92,7 +96,7 @@ extern "C" {
 #endif
 
 /* The version of the library; CHANGELOG.md says what each changed. */
-#define SIODLOMIL_VERSION "0.8.0"
+#define SIODLOMIL_VERSION "0.9.0"
 
 /* A block of an image, and a record in it. */
 #define SIODLOMIL_BLOCK_BYTES 512
@@ -117,7 +121,7 @@ extern "C" {
 
 /* Why it may not: the first of these rules that forbids it. */
 #define SIODLOMIL_REASON_PRIORITY 4 /* the high task is not above the low one's threshold; so a task with itself */
-#define SIODLOMIL_REASON_PAIR 5     /* a pair record forbids it */
+#define SIODLOMIL_REASON_PAIR 5     /* a one-way pair forbids it, or one of the two comes before the other */
 #define SIODLOMIL_REASON_TIMING 6   /* neither jitter nor response reaches */
 
 /* What siodlomil_map answers. */
@@ -181,7 +185,7 @@ typedef struct siodlomil_offending_answer {
 #endif
 
 /*
- * Fills a map from a table image: refusals 1 to 8, then 11.
+ * Fills a map from a table image: refusals 1 to 8, 14, then 11.
  *
  * image  read: the table image.
  * map    written: at least 64 rows. Bit j of row i, counted from the lowest, is set where the task at place i may be
@@ -189,12 +193,13 @@ typedef struct siodlomil_offending_answer {
  *        or beyond the number of tasks are 0. Rows beyond the 64 keep their values.
  *
  * A jitter that is missing is read as the period, which is above every distance: such a task may preempt each task of its
- * transaction that has a threshold below its priority, unless a pair forbids it.
+ * transaction that has a threshold below its priority, unless a one-way pair forbids it or one of the two comes before the
+ * other.
  */
 siodlomil_map_answer siodlomil_map(const uint8_t *image, size_t image_bytes, uint64_t *map, size_t map_rows);
 
 /*
- * Finds the four bounds of a table image, and the chain that reaches the first: refusals 1 to 8, then 11.
+ * Finds the four bounds of a table image, and the chain that reaches the first: refusals 1 to 8, 14, then 11.
  *
  * image  read: the table image.
  * map    read: at least 64 rows, of any contents. A set bit counts only where both places hold tasks and the first one's
@@ -213,7 +218,7 @@ siodlomil_bounds(const uint8_t *image, size_t image_bytes, const uint64_t *map, 
                  size_t ids_entries) SIODLOMIL_LINKED_AS("siodlomil_bounds_by_value");
 
 /*
- * Why the task low may be preempted by the task high, or why not: refusals 1 to 8, then 15.
+ * Why the task low may be preempted by the task high, or why not: refusals 1 to 8, 14, then 15.
  *
  * image  read: the table image.
  * low    the id of one task. An id that the table does not list is refusal 15; 0 and numbers above 65,535 are never listed.
@@ -225,7 +230,7 @@ siodlomil_bounds(const uint8_t *image, size_t image_bytes, const uint64_t *map, 
 siodlomil_reason_answer siodlomil_reason(const uint8_t *image, size_t image_bytes, uint32_t low, uint32_t high);
 
 /*
- * Applies a patch image to a table image: refusals 1 to 8 for the base, 21 to 27 for the patch, then 9, 10 and 11.
+ * Applies a patch image to a table image: refusals 1 to 8 and 14 for the base, 21 to 27 for the patch, then 9, 10 and 11.
  *
  * base      read: the table image that is patched.
  * patch     read: the patch image.
@@ -237,7 +242,8 @@ siodlomil_reason_answer siodlomil_reason(const uint8_t *image, size_t image_byte
  *
  * Records are compared byte for byte: a missing jitter is not equal to a written one, even to one that is the period, nor
  * a threshold of 0 to the priority written out.
- * A task is touched where a patch record is its own record, names it in a pair, or is its transaction's record. Where
+ * A task is touched where a patch record is its own record, names it in a pair, or is its transaction's record; and where
+ * the record is a precedence pair and the task comes before or after one of its two, in the base or in the outcome. Where
  * base_map is what siodlomil_map fills in for the base, new_map is what it would fill in for the outcome.
  */
 siodlomil_patch_answer siodlomil_patch(const uint8_t *base, size_t base_bytes, const uint8_t *patch, size_t patch_bytes,

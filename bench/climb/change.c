@@ -47,33 +47,22 @@ static void change_transaction(struct table *table)
     any_task(table)->transaction = table->transaction[random_below((uint32_t)table->transactions)].number;
 }
 
-/* Whether a pair comes before another in a table. */
-static bool is_pair_before(const struct pair *a, const struct pair *b)
-{
-    return a->first < b->first || (a->first == b->first && a->second < b->second);
-}
-
-/* Puts a pair in where it belongs, unless it is there or the table has no room for it. */
-static void put_pair(struct table *table, struct pair pair)
-{
-    size_t at = 0;
-    while (at < table->pairs && is_pair_before(&table->pair[at], &pair))
-        at++;
-    bool is_there = at < table->pairs && !is_pair_before(&pair, &table->pair[at]);
-    if (is_there || pair.first == pair.second || table->pairs == MOST_PAIRS)
-        return;
-    for (size_t k = table->pairs; k > at; k--)
-        table->pair[k] = table->pair[k - 1];
-    table->pair[at] = pair;
-    table->pairs++;
-}
-
 /* Takes a pair out. */
 static void drop_pair(struct table *table, size_t at)
 {
     table->pairs--;
     for (size_t k = at; k < table->pairs; k++)
         table->pair[k] = table->pair[k + 1];
+}
+
+/* Puts in a one-way pair of tasks by chance, which keeps the less urgent one from being preempted by the other. No precedence
+ * is ever put in, so that no task comes before itself. */
+static void put_any_pair(struct table *table)
+{
+    const struct task *one = any_task(table), *other = any_task(table);
+    bool is_one_less_urgent = one->priority < other->priority;
+    uint32_t low = is_one_less_urgent ? one->id : other->id, high = is_one_less_urgent ? other->id : one->id;
+    put_pair(table, (struct pair){low, high, 0});
 }
 
 /* Takes a pair out, puts one in, or both. */
@@ -83,10 +72,10 @@ static void change_pair(struct table *table)
     if (way != 0 && table->pairs > 0)
         drop_pair(table, random_below((uint32_t)table->pairs));
     if (way != 1)
-        put_pair(table, (struct pair){any_task(table)->id, any_task(table)->id, 1});
+        put_any_pair(table);
 }
 
-/* A table in which each task may meet every other but for the pairs: one priority each, 256 pairs by chance. */
+/* A table in which each task may meet every other but for the pairs: one priority each, 256 one-way pairs by chance. */
 struct table dense_table(void)
 {
     struct table table = random_table(MOST_TASKS, MOST_TRANSACTIONS, 255, BASE_LOAD_PERCENT);
@@ -96,7 +85,7 @@ struct table dense_table(void)
     }
     table.pairs = 0;
     while (table.pairs < MOST_PAIRS)
-        put_pair(&table, (struct pair){any_task(&table)->id, any_task(&table)->id, 1});
+        put_any_pair(&table);
     return table;
 }
 

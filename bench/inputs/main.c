@@ -89,13 +89,32 @@ static void write_patches(void)
     }
     for (size_t k = 0; k < INPUTS_OF_CLASS; k++) {
         base = random_table(60, 5, 32, BASE_LOAD_PERCENT);
+        out = in = none;
         change_tasks(&base, 8, &out, &in);
+        change_pairs(&base, 8, &out, &in);
         write_patch_case("patch: 60 tasks, an eighth of tasks and pairs changed", &base, &out, &in);
     }
     for (size_t k = 0; k < INPUTS_OF_CLASS; k++) {
         base = full_table();
         in = full_table();
         write_patch_case("patch: a full table replaced", &base, &base, &in);
+    }
+}
+
+/* Writes tables with long paths of precedences, and patches that change pairs of such tables. */
+static void write_paths(void)
+{
+    static struct table base, out, in;
+    const struct table none = {.tasks = 0};
+    for (size_t k = 0; k < INPUTS_OF_CLASS; k++) {
+        base = paths_table();
+        write_table_case("64 tasks, 16 transactions, 256 pairs, half of them in long paths", &base, NULL);
+    }
+    for (size_t k = 0; k < INPUTS_OF_CLASS; k++) {
+        base = paths_table();
+        out = in = none;
+        change_pairs(&base, 8, &out, &in);
+        write_patch_case("patch: 64 tasks in long paths, pairs changed", &base, &out, &in);
     }
 }
 
@@ -119,5 +138,6 @@ int main(int argc, char **argv)
     write_lent_maps(64, 98);
     write_random_tables(growing_classes, sizeof growing_classes / sizeof growing_classes[0]);
     write_patches();
+    write_paths();
     return 0;
 }

@@ -1,4 +1,4 @@
-/* Figure 2, full tables, and maps that are lent: random ones, and triples of which no two nest. */
+/* Figure 2, full tables, long paths, and maps that are lent: random ones, and triples of which no two nest. */
 #include "table.h"
 
 #include <string.h>
@@ -22,17 +22,35 @@ static size_t other_place(size_t own, size_t rank)
     return rank < own ? rank : rank + 1;
 }
 
-/* A table with as much of everything as it may have: random one-way and precedence pairs, four for each first task. */
+/* A table with as much of everything as it may have: four random pairs for each first task, and of those along the order about
+ * every other one a precedence. */
 struct table full_table(void)
 {
     struct table table = random_table(MOST_TASKS, MOST_TRANSACTIONS, 255, BASE_LOAD_PERCENT);
     table.pairs = 0;
     for (size_t i = 0; i < MOST_TASKS; i++)
         for (size_t k = 0; k < MOST_PAIRS / MOST_TASKS; k++) {
-            size_t rank = 15 * k + random_below(15);
-            uint32_t second = table.task[other_place(i, rank)].id;
-            table.pair[table.pairs++] = (struct pair){table.task[i].id, second, random_below(2)};
+            size_t second = other_place(i, 15 * k + random_below(15));
+            bool is_precedence = random_below(2) == 1 && is_before(&table, i, second);
+            table.pair[table.pairs++] = (struct pair){table.task[i].id, table.task[second].id, is_precedence};
         }
+    return table;
+}
+
+/* A table whose precedences make long paths: half of its pairs, each to a task that is near in the order, its offset at most a
+ * sixteenth of the period further on. The other half are one-way pairs. */
+struct table paths_table(void)
+{
+    struct table table = random_table(MOST_TASKS, MOST_TRANSACTIONS, 255, BASE_LOAD_PERCENT);
+    uint32_t reach = table.transaction[0].period / 16;
+    table.pairs = 0;
+    while (table.pairs < MOST_PAIRS) {
+        size_t first = random_below(MOST_TASKS), second = random_below(MOST_TASKS);
+        const struct task *one = &table.task[first], *other = &table.task[second];
+        bool is_precedence = table.pairs < MOST_PAIRS / 2;
+        if (!is_precedence || (is_before(&table, first, second) && other->offset - one->offset <= reach))
+            put_pair(&table, (struct pair){one->id, other->id, is_precedence});
+    }
     return table;
 }
 

@@ -4,8 +4,8 @@
 
 enum { PERIOD = 10000, LEAST_SIZE = 128, MOST_SIZE = 2048 };
 
-/* Whether task a comes before task b in their transaction: by offset, then by place. */
-static bool is_before(const struct table *table, size_t a, size_t b)
+/* Whether task a is before task b in the order that precedences follow: by offset, then by place. */
+bool is_before(const struct table *table, size_t a, size_t b)
 {
     if (table->task[a].offset != table->task[b].offset)
         return table->task[a].offset < table->task[b].offset;

@@ -38,12 +38,16 @@ enum { BASE_LOAD_PERCENT = 40 };
 
 struct table figure2(void);
 struct table random_table(size_t tasks, size_t transactions, uint32_t most_urgent, uint32_t load_percent);
+bool is_before(const struct table *table, size_t a, size_t b);
+void put_pair(struct table *table, struct pair pair);
 struct table full_table(void);
+struct table paths_table(void);
 void random_map(uint32_t percent, uint64_t rows[64]);
 void triples_map(size_t tasks, uint64_t rows[64]);
 
 struct table with_task(const struct table *base);
-void change_tasks(const struct table *base, size_t count, struct table *out, struct table *in);
+void change_tasks(const struct table *base, size_t every, struct table *out, struct table *in);
+void change_pairs(const struct table *base, size_t every, struct table *out, struct table *in);
 
 size_t make_table(const struct table *table, uint8_t image[MOST_BYTES]);
 void write_only_first(void);

@@ -34,33 +34,27 @@ static void read_task(const uint8_t *fields, uint32_t period, struct tasks *task
 }
 
 /* Reads the tasks of an accepted table. */
-static void read_tasks(const uint8_t *image, const struct sizes *sizes, struct tasks *tasks)
+static void read_tasks(const uint8_t *image, const struct judged *table, struct tasks *tasks)
 {
-    tasks->count = sizes->tasks;
-    for (size_t i = 0; i < sizes->tasks; i++) {
-        const uint8_t *fields = record_at(image, sizes->transactions + i);
-        read_task(fields, period_in(image, sizes->transactions, two_bytes(fields + 4)), tasks, i);
+    tasks->count = table->tasks;
+    for (size_t i = 0; i < table->tasks; i++) {
+        const uint8_t *fields = record_at(image, table->transactions + i);
+        read_task(fields, period_in(image, table->transactions, two_bytes(fields + 4)), tasks, i);
     }
 }
 
-/* Sets cell j of row i where a pair forbids that the task at place i is preempted by the one at place j. */
-static void read_barred(const uint8_t *image, const struct sizes *sizes, const struct tasks *tasks, uint64_t rows[64])
+/* Sets cell j of row i where the task at place i is kept from being preempted by the one at place j: where one of them comes
+ * before the other, or a one-way pair says so. */
+static void read_barred(const uint8_t *image, const struct judged *table, const struct tasks *tasks, uint64_t rows[64])
 {
-    memset(rows, 0, 64 * sizeof rows[0]);
-    for (size_t k = 0; k < sizes->pairs; k++) {
-        const uint8_t *fields = record_at(image, sizes->transactions + sizes->tasks + k);
-        size_t first = place_of(tasks->ids, tasks->count, two_bytes(fields + 2));
-        size_t second = place_of(tasks->ids, tasks->count, two_bytes(fields + 4));
-        rows[first] |= (uint64_t)1 << second;
-        if (fields[1] == 1)
-            rows[second] |= (uint64_t)1 << first;
+    set_both_ways(table->before, table->tasks, rows);
+    for (size_t k = 0; k < table->pairs; k++) {
+        const uint8_t *fields = record_at(image, table->transactions + table->tasks + k);
+        if (fields[1] == 0) {
+            size_t first = place_of(tasks->ids, tasks->count, two_bytes(fields + 2));
+            rows[first] |= (uint64_t)1 << place_of(tasks->ids, tasks->count, two_bytes(fields + 4));
+        }
     }
-}
-
-/* Whether bit j of a number is set. */
-static bool is_set(uint64_t bits, size_t j)
-{
-    return (bits >> j) % 2 == 1;
 }
 
 /* The difference of two numbers, or 0 where the second is larger. */
@@ -76,7 +70,7 @@ static uint32_t distance(uint32_t period, uint32_t lower, uint32_t upper)
 }
 
 /* Why the task at place i may be preempted by the one at place j, or why not, by equation (8); the bits of barred say which
- * tasks a pair forbids. Each cell of a map asks it, so it is to be inlined. */
+ * tasks are barred. Each cell of a map asks it, so it is to be inlined. */
 static inline enum reason decide(const struct tasks *tasks, uint64_t barred, size_t i, size_t j)
 {
     if (tasks->priorities[j] <= tasks->thresholds[i])
@@ -111,16 +105,16 @@ static uint64_t row(const struct tasks *tasks, const uint64_t barred[64], size_t
 /* Fills a lent map from a table image. A refusal writes nothing. */
 struct plain_verdict plain_map(const uint8_t *image, size_t bytes, uint64_t *rows, size_t row_count)
 {
-    struct sizes sizes;
+    struct judged table;
     struct tasks tasks;
     uint64_t barred[64];
-    struct plain_verdict verdict = table_verdict(image, bytes, &sizes);
+    struct plain_verdict verdict = table_verdict(image, bytes, &table);
     if (verdict.number != 0)
         return verdict;
     if (row_count < 64)
         return refusal(TABLE, 11, 0);
-    read_tasks(image, &sizes, &tasks);
-    read_barred(image, &sizes, &tasks, barred);
+    read_tasks(image, &table, &tasks);
+    read_barred(image, &table, &tasks, barred);
     for (size_t i = 0; i < tasks.count; i++)
         rows[i] = row(&tasks, barred, i);
     for (size_t i = tasks.count; i < 64; i++)

@@ -69,18 +69,18 @@ static uint32_t level_bound(const struct tasks *tasks)
 }
 
 /* The answer of an accepted call, with the chain's ids written to the room. */
-static struct plain_bounds find(const uint8_t *image, const struct sizes *sizes, const uint64_t *map, uint16_t *ids)
+static struct plain_bounds find(const uint8_t *image, const struct judged *table, const uint64_t *map, uint16_t *ids)
 {
     struct tasks tasks;
     struct setting setting;
     struct chains chains;
-    read_tasks(image, sizes, &tasks);
+    read_tasks(image, table, &tasks);
     setting.sizes = tasks.sizes;
     relate_rows(&tasks, map, setting.rows);
     order_by_falling(tasks.priorities, tasks.count, setting.order);
     find_heaviest(&setting, tasks.count, &chains);
     uint32_t path = path_bound(&setting, all_below(tasks.count));
-    uint32_t transactions = transaction_bound(image, sizes->transactions, &tasks, &setting);
+    uint32_t transactions = transaction_bound(image, table->transactions, &tasks, &setting);
     uint32_t levels = level_bound(&tasks);
     for (size_t k = 0; k < chains.best_length; k++)
         ids[k] = (uint16_t)tasks.ids[chains.best[k]];
@@ -93,11 +93,11 @@ static struct plain_bounds find(const uint8_t *image, const struct sizes *sizes,
 struct plain_bounds plain_bounds(const uint8_t *image, size_t bytes, const uint64_t *map, size_t row_count,
                                  uint16_t *ids, size_t id_count)
 {
-    struct sizes sizes;
-    struct plain_verdict verdict = table_verdict(image, bytes, &sizes);
+    struct judged table;
+    struct plain_verdict verdict = table_verdict(image, bytes, &table);
     if (verdict.number != 0)
         return (struct plain_bounds){.number = verdict.number, .place = verdict.place};
     if (row_count < 64 || id_count < 64)
         return (struct plain_bounds){.number = 11};
-    return find(image, &sizes, map, ids);
+    return find(image, &table, map, ids);
 }

@@ -1,10 +1,12 @@
-/* Records: form, order, ranges, counts and references; the verdict on an image as a table and as a patch. */
+/* Records: form, order, ranges, counts, references and circles; the verdict on an image as a table and as a patch. */
 
 enum { MOST_TRANSACTIONS = 16, MOST_TASKS = 64, MOST_PAIRS = 256 };
 
-/* How many records a table has, and of each kind. */
-struct sizes {
-    size_t records, transactions, tasks, pairs;
+/* What the verdict tells of a table: how many records it has, of each kind and of precedences among the pairs, and in row i of
+ * before the places of the tasks that the one at place i comes before. */
+struct judged {
+    size_t records, transactions, tasks, pairs, precedences;
+    uint64_t before[64];
 };
 
 /* Whether the bytes below 31 that are said to be 0 are 0. */
@@ -167,14 +169,15 @@ static void list_numbers(const uint8_t *image, size_t first, size_t count, uint3
         numbers[k] = two_bytes(record_at(image, first + k) + 2);
 }
 
-/* The first record that refers to something not listed, or the number of records. */
-static size_t first_wrong_reference(const uint8_t *image, const struct sizes *sizes)
+/* The first record that refers to something not listed, or the number of records. The precedences that it passes are counted
+ * and set in the rows, since their tasks' places are at hand here. */
+static size_t first_wrong_reference(const uint8_t *image, struct judged *table)
 {
     uint32_t numbers[MOST_TRANSACTIONS], ids[MOST_TASKS];
-    size_t transactions = sizes->transactions, tasks = sizes->tasks;
+    size_t transactions = table->transactions, tasks = table->tasks;
     list_numbers(image, 0, transactions, numbers);
     list_numbers(image, transactions, tasks, ids);
-    for (size_t k = 0; k < sizes->records; k++) {
+    for (size_t k = 0; k < table->records; k++) {
         const uint8_t *fields = record_at(image, k);
         if (fields[0] == 2) {
             size_t place = place_of(numbers, transactions, two_bytes(fields + 4));
@@ -182,16 +185,30 @@ static size_t first_wrong_reference(const uint8_t *image, const struct sizes *si
                 return k;
         }
         if (fields[0] == 3) {
-            if (place_of(ids, tasks, two_bytes(fields + 2)) == tasks ||
-                place_of(ids, tasks, two_bytes(fields + 4)) == tasks)
+            size_t first = place_of(ids, tasks, two_bytes(fields + 2));
+            size_t second = place_of(ids, tasks, two_bytes(fields + 4));
+            if (first == tasks || second == tasks)
                 return k;
+            if (fields[1] == 1) {
+                table->before[first] |= (uint64_t)1 << second;
+                table->precedences++;
+            }
         }
     }
-    return sizes->records;
+    return table->records;
 }
 
-/* The verdict on an image as a table, and the sizes of an accepted one. */
-static struct plain_verdict table_verdict(const uint8_t *image, size_t bytes, struct sizes *sizes)
+/* The place of the first task that comes before itself, by closed rows, or the number of tasks. */
+static size_t first_in_circle(const struct judged *table)
+{
+    for (size_t i = 0; i < table->tasks; i++)
+        if (is_set(table->before[i], i))
+            return i;
+    return table->tasks;
+}
+
+/* The verdict on an image as a table, and what it tells of an accepted one. The rows are closed once, here. */
+static struct plain_verdict table_verdict(const uint8_t *image, size_t bytes, struct judged *table)
 {
     uint32_t counts[8];
     struct plain_verdict verdict = frame_verdict(TABLE, image, bytes);
@@ -201,9 +218,17 @@ static struct plain_verdict table_verdict(const uint8_t *image, size_t bytes, st
     verdict = records_verdict(TABLE, image, count, counts);
     if (verdict.number != 0)
         return verdict;
-    *sizes = (struct sizes){count, counts[1], counts[2], counts[3]};
-    size_t unlisted = first_wrong_reference(image, sizes);
-    return unlisted < count ? refusal(TABLE, 8, unlisted) : verdict;
+    *table = (struct judged){.records = count, .transactions = counts[1], .tasks = counts[2], .pairs = counts[3]};
+    size_t unlisted = first_wrong_reference(image, table);
+    if (unlisted < count)
+        return refusal(TABLE, 8, unlisted);
+    if (table->precedences == 0)
+        return verdict;
+    close_rows(table->before, table->tasks);
+    size_t place = first_in_circle(table);
+    if (place < table->tasks)
+        return refusal(TABLE, 14, two_bytes(record_at(image, table->transactions + place) + 2));
+    return verdict;
 }
 
 /* The verdict on an image as a patch. */

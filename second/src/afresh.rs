@@ -6,7 +6,9 @@ use std::collections::BTreeSet;
 use crate::blocks::{image_of, start_of_record, Form};
 use crate::patch_call::{PatchRefusal, Patched};
 use crate::preempt::{true_map, MAP_ROWS};
-use crate::records::{Record, PAIR, PUT_IN, RECORD_BYTES, TAKEN_OUT, TASK, TRANSACTION};
+use crate::records::{
+    Record, PAIR, PAIR_SORT_AT, PUT_IN, RECORD_BYTES, TAKEN_OUT, TASK, TRANSACTION,
+};
 use crate::stream::step::{Step, LENT_ROW};
 use crate::table::Table;
 use crate::verdict::{records_of_patch, records_of_table, Refusal, BAD_OUTCOME, TOO_SHORT};
@@ -59,9 +61,10 @@ impl Afresh {
             return Err(TOO_SHORT.into());
         }
         self.further_rows = vec![LENT_ROW; step.map_rows - MAP_ROWS];
+        let touched = touched_ids(&self.records, &records, &patch).len();
         self.records = records;
         Ok(Patched {
-            touched: touched_ids(&self.records, &patch).len(),
+            touched,
             length: image.len(),
         })
     }
@@ -88,9 +91,9 @@ fn with_put_in(mut records: Vec<Record>, patch: &[Record]) -> Vec<Record> {
     records
 }
 
-/// The ids of the outcome's tasks that have a record in the patch, are named in a pair of it, or whose
-/// transaction has a record in it.
-pub fn touched_ids(outcome: &[Record], patch: &[Record]) -> BTreeSet<u16> {
+/// The ids of the outcome's tasks that have a record in the patch, are named in a pair of it, come before or
+/// after a task that a precedence pair of it names, or whose transaction has a record in it.
+pub fn touched_ids(base: &[Record], outcome: &[Record], patch: &[Record]) -> BTreeSet<u16> {
     let numbers_of = |kind: u8| {
         let of_kind = patch.iter().filter(move |record| record.kind() == kind);
         of_kind.map(Record::number).collect::<BTreeSet<u16>>()
@@ -99,10 +102,51 @@ pub fn touched_ids(outcome: &[Record], patch: &[Record]) -> BTreeSet<u16> {
     let mut named: BTreeSet<u16> = seconds.map(Record::second).collect();
     named.extend(numbers_of(PAIR));
     named.extend(numbers_of(TASK));
+    named.extend(along_paths(base, patch));
+    named.extend(along_paths(outcome, patch));
     let transactions = numbers_of(TRANSACTION);
     let tasks = outcome.iter().filter(|record| record.kind() == TASK);
     tasks
         .filter(|task| named.contains(&task.number()) || transactions.contains(&task.second()))
         .map(Record::number)
         .collect()
+}
+
+/// The ids that the precedence pairs of the patch name, and those that come before or after one of them by
+/// the precedence pairs of these records.
+pub fn along_paths(records: &[Record], patch: &[Record]) -> BTreeSet<u16> {
+    let links = precedences_in(records);
+    let named = precedences_in(patch).into_iter();
+    let named: BTreeSet<u16> = named.flat_map(|(first, second)| [first, second]).collect();
+    let turned: Vec<Link> = links
+        .iter()
+        .map(|(first, second)| (*second, *first))
+        .collect();
+    let mut joined = grown_along(&links, named.clone());
+    joined.extend(grown_along(&turned, named));
+    joined
+}
+
+/// The first and the second task of a precedence pair.
+type Link = (u16, u16);
+
+fn precedences_in(records: &[Record]) -> Vec<Link> {
+    let is_precedence = |record: &&Record| record.kind() == PAIR && record.0[PAIR_SORT_AT] == 1;
+    let precedences = records.iter().filter(is_precedence);
+    precedences
+        .map(|record| (record.number(), record.second()))
+        .collect()
+}
+
+/// These ids with the second of every link whose first is among them, until no link adds one.
+fn grown_along(links: &[Link], mut ids: BTreeSet<u16>) -> BTreeSet<u16> {
+    loop {
+        let from_ids = links.iter().filter(|(first, _)| ids.contains(first));
+        let reached: Vec<u16> = from_ids.map(|(_, second)| *second).collect();
+        let before = ids.len();
+        ids.extend(reached);
+        if ids.len() == before {
+            return ids;
+        }
+    }
 }

@@ -1,6 +1,7 @@
-//! The six tasks of figure 2 as a table, with their jitters written or missing, and with a threshold.
+//! The six tasks of figure 2 as a table, with their jitters written or missing, with a threshold, and with
+//! precedence pairs.
 
-use crate::records::{Task, Transaction, MISSING_JITTER, THRESHOLD_OF_PRIORITY};
+use crate::records::{Pair, PairSort, Task, Transaction, MISSING_JITTER, THRESHOLD_OF_PRIORITY};
 use crate::table::Table;
 
 /// Figure 2 with period 10,000 in both transactions, every jitter written as 0 and every threshold 0.
@@ -37,6 +38,19 @@ pub fn thresholds() -> Table {
     let mut table = figure2();
     table.tasks[1].threshold = 3;
     table
+}
+
+/// Figure 2 with task 11 before 12 and 12 before 23, so that 11 and 23 do not nest either.
+pub fn precedence() -> Table {
+    let pair = |first, second| Pair {
+        sort: PairSort::Precedence,
+        first,
+        second,
+    };
+    Table {
+        pairs: vec![pair(11, 12), pair(12, 23)],
+        ..figure2()
+    }
 }
 
 /// A task of figure 2, whose id starts with its transaction's number.

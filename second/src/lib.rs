@@ -20,6 +20,7 @@ pub mod heaviest;
 pub mod map_call;
 pub mod numbered_cases;
 pub mod patch_call;
+pub mod precedence;
 pub mod preempt;
 pub mod reason_call;
 pub mod reasons;

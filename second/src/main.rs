@@ -9,7 +9,7 @@ use std::process::ExitCode;
 use second::answer::answer;
 use second::blocks::{image_of, Form};
 use second::cable::cancelled;
-use second::figure2::{figure2, thresholds, unmeasured};
+use second::figure2::{figure2, precedence, thresholds, unmeasured};
 use second::generate::{write_stream, Wanted};
 use second::heaviest::heaviest;
 use second::numbered_cases::{patch_of, runs_of};
@@ -21,8 +21,8 @@ use second::table::Table;
 
 const USAGE: &str =
     "usage: second bounds | reasons | generate SEED LETTERS COUNT | answer | sorts | figure2 \
-                     | unmeasured | thresholds | heaviest | cancelled | patch NUMBER | case NUMBER \
-                     | simulate SEED COUNT \
+                     | unmeasured | thresholds | precedence | heaviest | cancelled | patch NUMBER \
+                     | case NUMBER | simulate SEED COUNT \
                      (LETTERS are some of T, P, M, B, A, R, W, V, U and L; NUMBER is 11, 12 or 13)";
 
 /// What the command line asks for.
@@ -70,6 +70,7 @@ fn command_from(words: &[&str]) -> Option<Command> {
         ["figure2"] => Some(Command::Table(figure2())),
         ["unmeasured"] => Some(Command::Table(unmeasured())),
         ["thresholds"] => Some(Command::Table(thresholds())),
+        ["precedence"] => Some(Command::Table(precedence())),
         ["heaviest"] => Some(Command::Table(heaviest())),
         ["cancelled"] => Some(Command::Image(cancelled())),
         ["patch", number] => patch_of(number.parse().ok()?).map(Command::Image),
@@ -139,7 +140,7 @@ fn answer_all(input: &mut impl Read, output: &mut impl Write) -> io::Result<()> 
     }
 }
 
-/// The sorts of patch call in the stream.
+/// The sorts of call in the stream.
 fn sorts_in(input: &mut impl Read) -> io::Result<Sorts> {
     let mut sorts = Sorts::default();
     while let Some(case) = Case::read(input)? {

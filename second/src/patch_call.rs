@@ -3,14 +3,15 @@
 use std::collections::BTreeSet;
 
 use crate::blocks::{image_of, start_of_record, Form};
-use crate::preempt::{is_set, map_from, may_be_preempted, Map, MAP_ROWS};
+use crate::precedence::Paths;
+use crate::preempt::{is_set, map_from, Decider, Map, MAP_ROWS};
 use crate::records::{
-    Pair, Record, Task, PAIR, PUT_IN, RECORD_BYTES, TAKEN_OUT, TASK, TRANSACTION,
+    Pair, PairSort, Record, Task, PAIR, PUT_IN, RECORD_BYTES, TAKEN_OUT, TASK, TRANSACTION,
 };
 use crate::table::Table;
 use crate::verdict::{
-    records_of_patch, records_of_table, refuse_disorder, refuse_too_many, refuse_unlisted, Refusal,
-    BAD_OUTCOME, TOO_SHORT,
+    records_of_patch, records_of_table, refuse_circles, refuse_disorder, refuse_too_many,
+    refuse_unlisted, Refusal, BAD_OUTCOME, TOO_SHORT,
 };
 
 /// The numbers of an accepted patch call.
@@ -56,15 +57,10 @@ pub fn patch_call<'patch>(
     if too_short || room.len() < image.len() {
         return Err(TOO_SHORT.into());
     }
-    let new = Table::read(&records);
-    let touched = touched_places(&new, &patch_records);
+    let (old, new) = (Table::read(&base_records), Table::read(&records));
+    let touched = touched_places(&old, &new, &patch_records);
     room[..image.len()].copy_from_slice(&image);
-    new_map[..MAP_ROWS].copy_from_slice(&carried_map(
-        &Table::read(&base_records),
-        base_map,
-        &new,
-        &touched,
-    ));
+    new_map[..MAP_ROWS].copy_from_slice(&carried_map(&old, base_map, &new, &touched));
     Ok(Patched {
         touched: touched.len(),
         length: image.len(),
@@ -88,24 +84,33 @@ fn refuse_absent<'patch>(
     }
 }
 
-/// The base's records without those taken out and with those put in, or refusal 10.
+/// The records of the outcome, or refusal 10.
 fn outcome(base: &[Record], patch: &[Record]) -> Result<Vec<Record>, Refusal> {
+    let records = patched(base, patch);
+    refuse_disorder(&records)
+        .and_then(|()| refuse_too_many(&records))
+        .and_then(|()| refuse_unlisted(&records))
+        .and_then(|()| refuse_circles(&records))
+        .map_err(|_| BAD_OUTCOME)?;
+    Ok(records)
+}
+
+/// The base's records without those taken out and with those put in, in table order.
+pub fn patched(base: &[Record], patch: &[Record]) -> Vec<Record> {
     let (put_in, taken_out): (Vec<Record>, Vec<Record>) =
         patch.iter().partition(|record| record.way() == PUT_IN);
     let stays = |record: &&Record| !taken_out.contains(record);
     let mut records: Vec<Record> = base.iter().filter(stays).copied().collect();
     records.extend(put_in.iter().map(|record| record.with_way(0)));
     records.sort_by_key(Record::key);
-    refuse_disorder(&records)
-        .and_then(|()| refuse_too_many(&records))
-        .and_then(|()| refuse_unlisted(&records))
-        .map_err(|_| BAD_OUTCOME)?;
-    Ok(records)
+    records
 }
 
 /// The places of the outcome's tasks that the patch touches.
-fn touched_places(new: &Table, patch: &[Record]) -> BTreeSet<usize> {
-    let is_touched = |task: &Task| patch.iter().any(|record| touches(record, task));
+fn touched_places(old: &Table, new: &Table, patch: &[Record]) -> BTreeSet<usize> {
+    let joined = joined_to_precedences(&[old, new], patch);
+    let is_touched =
+        |task: &Task| joined.contains(&task.id) || patch.iter().any(|record| touches(record, task));
     (0..new.tasks.len())
         .filter(|place| is_touched(&new.tasks[*place]))
         .collect()
@@ -121,6 +126,20 @@ fn touches(record: &Record, task: &Task) -> bool {
     }
 }
 
+/// The tasks that in one of these tables come before or after a task that a precedence pair of the patch names.
+fn joined_to_precedences(tables: &[&Table], patch: &[Record]) -> BTreeSet<u16> {
+    let pairs = patch.iter().filter(|record| record.kind() == PAIR);
+    let precedences = pairs
+        .map(Pair::read)
+        .filter(|pair| pair.sort == PairSort::Precedence);
+    let named: BTreeSet<u16> = precedences
+        .flat_map(|pair| [pair.first, pair.second])
+        .collect();
+    let paths = tables.iter().map(|table| Paths::along(&table.pairs));
+    let joined = |paths: Paths| named.iter().flat_map(move |id| paths.joined_to(*id));
+    paths.flat_map(joined).collect()
+}
+
 /// The new map: cells between untouched tasks come from the base map, all others are decided anew.
 fn carried_map(old: &Table, old_map: &[u64], new: &Table, touched: &BTreeSet<usize>) -> Map {
     let old_places: Vec<Option<usize>> = (0..new.tasks.len())
@@ -129,10 +148,11 @@ fn carried_map(old: &Table, old_map: &[u64], new: &Table, touched: &BTreeSet<usi
             false => old.place_of(new.tasks[place].id),
         })
         .collect();
+    let decider = Decider::of(new);
     map_from(new.tasks.len(), |row, cell| {
         match (old_places[row], old_places[cell]) {
             (Some(old_row), Some(old_cell)) => is_set(old_map, old_row, old_cell),
-            _ => may_be_preempted(new, &new.tasks[row], &new.tasks[cell]),
+            _ => decider.sets(row, cell),
         }
     })
 }

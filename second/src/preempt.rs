@@ -1,7 +1,8 @@
 //! Who may preempt whom and why, and the map of it.
 
+use crate::precedence::Bars;
 use crate::reasons::Reason;
-use crate::records::{Pair, Task};
+use crate::records::Task;
 use crate::table::Table;
 
 /// Rows of a map, and cells of a row.
@@ -16,6 +17,41 @@ pub fn distance(from: u32, to: u32, period: u32) -> u64 {
     (u64::from(to) + period - u64::from(from)) % period
 }
 
+/// What decides whether tasks of a table may nest.
+pub struct Decider<'table> {
+    table: &'table Table,
+    bars: Bars<'table>,
+}
+
+impl Decider<'_> {
+    /// The decider of this table, which works out once where its precedence pairs lead.
+    pub fn of(table: &Table) -> Decider<'_> {
+        Decider {
+            table,
+            bars: Bars::of(&table.pairs),
+        }
+    }
+
+    /// Why task `lower` may be preempted by task `upper`, or why it may not.
+    pub fn reason(&self, lower: &Task, upper: &Task) -> Reason {
+        if !lower.yields_to(upper) {
+            Reason::Priority
+        } else if self.bars.forbid(lower.id, upper.id) {
+            Reason::Pair
+        } else if lower.transaction != upper.transaction {
+            Reason::Transaction
+        } else {
+            reason_of_times(self.table, lower, upper)
+        }
+    }
+
+    /// Whether the task at place `row` may be preempted by the one at place `cell`.
+    pub fn sets(&self, row: usize, cell: usize) -> bool {
+        let tasks = &self.table.tasks;
+        self.reason(&tasks[row], &tasks[cell]).lets_nest()
+    }
+}
+
 /// Whether task `lower` may be preempted by task `upper`.
 pub fn may_be_preempted(table: &Table, lower: &Task, upper: &Task) -> bool {
     reason_for(table, lower, upper).lets_nest()
@@ -23,16 +59,7 @@ pub fn may_be_preempted(table: &Table, lower: &Task, upper: &Task) -> bool {
 
 /// Why task `lower` may be preempted by task `upper`, or why it may not.
 pub fn reason_for(table: &Table, lower: &Task, upper: &Task) -> Reason {
-    let forbids = |pair: &Pair| pair.forbids(lower.id, upper.id);
-    if !lower.yields_to(upper) {
-        Reason::Priority
-    } else if table.pairs.iter().any(forbids) {
-        Reason::Pair
-    } else if lower.transaction != upper.transaction {
-        Reason::Transaction
-    } else {
-        reason_of_times(table, lower, upper)
-    }
+    Decider::of(table).reason(lower, upper)
 }
 
 /// What the times of two tasks of one transaction say; without a period they say no.
@@ -53,18 +80,18 @@ fn reason_of_times(table: &Table, lower: &Task, upper: &Task) -> Reason {
 
 /// The reasons of all pairs of places, row after row.
 pub fn all_reasons(table: &Table) -> Vec<Reason> {
+    let decider = Decider::of(table);
     let row = |lower| {
-        let reason = move |upper| reason_for(table, lower, upper);
-        table.tasks.iter().map(reason)
+        let reason = |upper| decider.reason(lower, upper);
+        table.tasks.iter().map(reason).collect::<Vec<Reason>>()
     };
     table.tasks.iter().flat_map(row).collect()
 }
 
 /// The map of a table, decided cell by cell.
 pub fn true_map(table: &Table) -> Map {
-    map_from(table.tasks.len(), |row, cell| {
-        may_be_preempted(table, &table.tasks[row], &table.tasks[cell])
-    })
+    let decider = Decider::of(table);
+    map_from(table.tasks.len(), |row, cell| decider.sets(row, cell))
 }
 
 /// The map whose cells among the first `tasks` places are as decided, and all others 0.

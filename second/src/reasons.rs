@@ -11,7 +11,7 @@ pub enum Reason {
     Response = 3,
     /// No: the second task's priority is not above the first one's threshold.
     Priority = 4,
-    /// No: a listed pair forbids it.
+    /// No: a listed pair forbids it, or a path of precedence pairs leads from one task to the other.
     Pair = 5,
     /// No: the times of the two tasks keep them apart.
     Timing = 6,

@@ -219,7 +219,7 @@ impl Task {
 pub enum PairSort {
     /// The first task is not preempted by the second.
     OneWay,
-    /// Neither task is preempted by the other.
+    /// The first task comes before the second, so neither is preempted by the other.
     Precedence,
 }
 
@@ -256,7 +256,7 @@ impl Pair {
         record
     }
 
-    /// Whether the pair forbids that `lower` is preempted by `upper`.
+    /// Whether the pair by itself forbids that `lower` is preempted by `upper`.
     pub fn forbids(&self, lower: u16, upper: u16) -> bool {
         let named = (self.first, self.second);
         let backwards = self.sort == PairSort::Precedence && named == (upper, lower);

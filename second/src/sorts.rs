@@ -1,8 +1,12 @@
 //! Which sorts of call a stream holds, so that a comparison can be seen to meet each of them.
 
+mod circles;
 mod patch_calls;
+mod precedences;
 mod reverses;
 mod round_trips;
+mod runs;
+mod tables;
 
 use std::collections::{BTreeMap, BTreeSet};
 
@@ -25,10 +29,14 @@ impl Sorts {
     /// Counts the case for every sort that its call has.
     pub fn count(&mut self, case: &Case) {
         let told = match case.call {
+            Call::TableVerdict => [tables::told(case), circles::told_of_table(case)].concat(),
+            Call::PatchVerdict => circles::told_of_patch(case),
+            Call::Map | Call::Reasons => tables::told(case),
+            Call::Bound => Vec::new(),
             Call::Patch => patch_calls::told(case),
-            Call::Reverse => reverses::told(case),
+            Call::Run => runs::told(case),
+            Call::Reverse => [reverses::told(case), circles::told_of_patch(case)].concat(),
             Call::RoundTrip => round_trips::told(case),
-            _ => Vec::new(),
         };
         for (rank, (name, holds)) in told.into_iter().enumerate() {
             let counted = self.counts.entry((case.call.letter(), rank));

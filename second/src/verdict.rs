@@ -1,6 +1,7 @@
 //! Whether an image is accepted, and the number and place of its refusal if not.
 
 use crate::blocks::{check_is_right, frame_is_right, records_in, Form, BLOCK_BYTES};
+use crate::precedence::Paths;
 use crate::record_faults::{has_stray_byte, is_out_of_range};
 use crate::records::{Pair, Record, Task, PAIR, PUT_IN, TAKEN_OUT, TASK, TRANSACTION};
 use crate::table::Table;
@@ -26,16 +27,20 @@ impl Refusal {
     }
 }
 
+/// The most pairs that a table may have.
+pub const MOST_PAIRS: usize = 256;
+
 /// The most transactions, tasks and pairs that a table may have.
-pub const MOST_OF_KIND: [(u8, usize); 3] = [(TRANSACTION, 16), (TASK, 64), (PAIR, 256)];
+pub const MOST_OF_KIND: [(u8, usize); 3] = [(TRANSACTION, 16), (TASK, 64), (PAIR, MOST_PAIRS)];
 
 /// What is added to refusals 1 to 7 when they are given for a patch.
 const PATCH_NUMBERS: u32 = 20;
 
-/// The records of a table image, or its refusal 1 to 8.
+/// The records of a table image, or its refusal 1 to 8 or 14.
 pub fn records_of_table(image: &[u8]) -> Result<Vec<Record>, Refusal> {
     let records = well_formed_records(image, Form::Table)?;
     refuse_unlisted(&records)?;
+    refuse_circles(&records)?;
     Ok(records)
 }
 
@@ -121,4 +126,14 @@ fn task_fits(table: &Table, task: &Task) -> bool {
 
 fn pair_fits(table: &Table, pair: &Pair) -> bool {
     table.place_of(pair.first).is_some() && table.place_of(pair.second).is_some()
+}
+
+/// Refuses 14 at the lowest id of a task that comes before itself.
+pub fn refuse_circles(records: &[Record]) -> Result<(), Refusal> {
+    let paths = Paths::along(&Table::read(records).pairs);
+    let lowest = paths.circular().next();
+    match lowest {
+        None => Ok(()),
+        Some(id) => Err(Refusal::new(14, usize::from(id))),
+    }
 }

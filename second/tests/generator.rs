@@ -49,11 +49,11 @@ fn assert_meets(call: Call, refusals: impl IntoIterator<Item = u32>) {
 
 #[test]
 fn every_refusal_of_every_call_is_met() {
-    assert_meets(Call::TableVerdict, 1..=8);
+    assert_meets(Call::TableVerdict, (1..=8).chain([14]));
     assert_meets(Call::PatchVerdict, 21..=27);
-    assert_meets(Call::Map, (1..=8).chain([11]));
-    assert_meets(Call::Bound, (1..=8).chain([11]));
-    assert_meets(Call::Patch, (1..=11).chain(21..=27));
+    assert_meets(Call::Map, (1..=8).chain([11, 14]));
+    assert_meets(Call::Bound, (1..=8).chain([11, 14]));
+    assert_meets(Call::Patch, (1..=11).chain([14]).chain(21..=27));
     assert_meets(Call::Reverse, [11].into_iter().chain(21..=27));
 }
 

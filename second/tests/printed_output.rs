@@ -5,7 +5,7 @@ mod common;
 use std::io::Write;
 use std::process::{Command, Output, Stdio};
 
-use common::{stream_of, table, table_image, task};
+use common::{precedence, stream_of, table, table_image, task};
 use second::figure2::figure2;
 use second::heaviest::heaviest;
 use second::stream::{Call, Case};
@@ -21,6 +21,10 @@ const UNMEASURED_REASONS: &str = "11 12 jitter\n12 23 transaction\n23 13 transac
 /// No task of priority 3 nests in task 12: the chain is 4 + 3, the path 4 + 3 + 2.
 const THRESHOLDS: &str = "tasks 6\nchain 7: 11 23\npath 9\ntransactions 9\nlevels 10\n";
 const THRESHOLDS_REASONS: &str = "11 23 transaction\n";
+
+/// Tasks 11 and 23 stand at the ends of a path: the chain is 4 + 2, the path 4 + 2 + 2, and 4 and 1 + 3 by transactions.
+const PRECEDENCE: &str = "tasks 6\nchain 6: 11 21\npath 8\ntransactions 8\nlevels 10\n";
+const PRECEDENCE_REASONS: &str = "11 21 transaction\n";
 
 /// The commands that print what they say of one image, and read all of their input for it.
 const REPORTS: [&str; 2] = ["bounds", "reasons"];
@@ -83,6 +87,17 @@ fn figure_2_with_a_threshold_is_the_example_and_the_command() {
 }
 
 #[test]
+fn figure_2_with_precedence_pairs_is_the_example_and_the_command() {
+    let example = include_bytes!("../../examples/precedence.tb");
+    assert_eq!(run(&["precedence"], &[]).stdout, example);
+    assert_eq!(printed(&["bounds"], example), PRECEDENCE);
+    assert_eq!(printed(&["reasons"], example), PRECEDENCE_REASONS);
+    let bounds = include_str!("../../examples/precedence.txt");
+    let reasons = include_str!("../../examples/precedence.reasons.txt");
+    assert_eq!((bounds, reasons), (PRECEDENCE, PRECEDENCE_REASONS));
+}
+
+#[test]
 fn patches_of_cases_are_the_examples_and_the_commands() {
     let examples: [(&str, &[u8]); 3] = [
         ("11", include_bytes!("../../examples/case11.pa")),
@@ -110,10 +125,21 @@ fn sorts_are_counted_where_their_calls_are() {
         let stream = run(&["generate", "3", letters, "50"], &[]).stdout;
         printed(&["sorts"], &stream)
     };
-    for (letters, sorts) in [("A", 20), ("V", 17), ("U", 19), ("VAU", 56)] {
-        assert_eq!(sorts_of(letters).lines().count(), sorts);
+    let sorts = [
+        ("T", 16),
+        ("P", 2),
+        ("M", 7),
+        ("A", 31),
+        ("R", 11),
+        ("W", 7),
+        ("V", 19),
+        ("U", 29),
+        ("VAU", 79),
+    ];
+    for (letters, count) in sorts {
+        assert_eq!(sorts_of(letters).lines().count(), count);
     }
-    assert_eq!(sorts_of("TPMBRW"), "");
+    assert_eq!(sorts_of("BL"), "");
 }
 
 #[test]
@@ -161,6 +187,12 @@ fn a_refusal_is_one_line() {
         image[8] = 9;
         second::blocks::mend_checks(&mut image);
         assert_eq!(printed(&[report], &image), "refused 4 at 0\n");
+        let mut circle = figure2();
+        circle.pairs = vec![precedence(21, 22), precedence(22, 21)];
+        assert_eq!(
+            printed(&[report], &table_image(&circle)),
+            "refused 14 at 21\n"
+        );
     }
 }
 

@@ -7,7 +7,7 @@ use std::collections::BTreeMap;
 use common::{margins, numbers_in, pairs_of_tasks, Margins};
 use second::answer::answer;
 use second::generate::Generator;
-use second::preempt::{distance, reason_for};
+use second::preempt::{distance, Decider};
 use second::reasons::Reason;
 use second::records::{Task, MISSING_JITTER};
 use second::stream::question::Question;
@@ -41,9 +41,9 @@ fn reason_cases_are_mostly_accepted_and_meet_every_refusal() {
         parts.for_each(|number| *questions.entry(number).or_insert(0) += 1);
     }
     assert!(tables[&0] >= 1000);
-    assert!(tables.into_keys().eq(0..=8));
+    assert!(tables.into_keys().eq((0..=8).chain([14])));
     assert!(questions[&0] >= 3000 && questions[&15] >= 500);
-    assert!(questions.into_keys().eq((0..=8).chain([15])));
+    assert!(questions.into_keys().eq((0..=8).chain([14, 15])));
 }
 
 #[test]
@@ -75,8 +75,9 @@ fn tables_of_reason_cases_come_in_all_sizes_and_stay_small() {
 /// Every two tasks of a table that their times alone decide.
 fn pairs_decided_by_times(table: &Table) -> impl Iterator<Item = (&Task, &Task)> {
     let by_times = [Reason::Jitter, Reason::Response, Reason::Timing];
+    let decider = Decider::of(table);
     pairs_of_tasks(table)
-        .filter(move |(lower, upper)| by_times.contains(&reason_for(table, lower, upper)))
+        .filter(move |(lower, upper)| by_times.contains(&decider.reason(lower, upper)))
 }
 
 /// The margins of every two tasks of a table that their times alone decide, with a jitter that is written.

@@ -7,7 +7,9 @@ use second::answer::answer;
 use second::digest;
 use second::figure2::figure2;
 use second::generate::Generator;
-use second::preempt::{all_reasons, distance, is_set, may_be_preempted, reason_for, true_map};
+use second::preempt::{
+    all_reasons, distance, is_set, may_be_preempted, reason_for, true_map, Decider,
+};
 use second::reason_call::reason_call;
 use second::reasons::Reason;
 use second::records::{Pair, Task, MISSING_JITTER};
@@ -172,24 +174,22 @@ fn a_missing_jitter_is_the_period_of_its_own_transaction() {
 
 #[test]
 fn a_missing_jitter_of_the_preempted_task_changes_nothing() {
-    let changes_nothing = |asked: &Table, (lower, upper): (&Task, &Task)| {
-        let with = |jitter| reason_for(asked, &Task { jitter, ..*lower }, upper);
-        with(MISSING_JITTER) == with(0) && with(0) == reason_for(asked, lower, upper)
+    let changes_nothing = |asked: &Decider, (lower, upper): (&Task, &Task)| {
+        let with = |jitter| asked.reason(&Task { jitter, ..*lower }, upper);
+        with(MISSING_JITTER) == with(0) && with(0) == asked.reason(lower, upper)
     };
-    for asked in drawn_tables(Call::Reasons) {
-        assert!(pairs_of_tasks(&asked).all(|pair| changes_nothing(&asked, pair)));
+    for table in drawn_tables(Call::Reasons) {
+        let asked = Decider::of(&table);
+        assert!(pairs_of_tasks(&table).all(|pair| changes_nothing(&asked, pair)));
     }
 }
 
-/// The reason as a list of rules says it, of which the first that holds is named.
-fn restated(table: &Table, lower: &Task, upper: &Task) -> Reason {
+/// The reason as a list of rules says it, of which the first that holds is named, given who comes before whom.
+fn restated(table: &Table, led: &Led, lower: &Task, upper: &Task) -> Reason {
     let margins = margins(table, lower, upper);
-    let forbidding = [
-        one_way(lower.id, upper.id),
-        precedence(lower.id, upper.id),
-        precedence(upper.id, lower.id),
-    ];
-    let is_forbidden = forbidding.iter().any(|pair| table.pairs.contains(pair));
+    let is_forbidden = table.pairs.contains(&one_way(lower.id, upper.id))
+        || led.contains(&(lower.id, upper.id))
+        || led.contains(&(upper.id, lower.id));
     let rules = [
         (Reason::Priority, !is_urgent_enough(lower, upper)),
         (Reason::Pair, is_forbidden),
@@ -205,11 +205,12 @@ fn restated(table: &Table, lower: &Task, upper: &Task) -> Reason {
 /// Asserts that all reasons of a table are as restated, and that its map is set where they let nest.
 fn assert_reasons_of(table: &Table) {
     let map = true_map(table);
+    let led = led_along(&table.pairs);
     let mut reasons = all_reasons(table).into_iter();
     for (row, lower) in table.tasks.iter().enumerate() {
         for (cell, upper) in table.tasks.iter().enumerate() {
             let reason = reasons.next().expect("a reason for each pair");
-            assert_eq!(reason, restated(table, lower, upper));
+            assert_eq!(reason, restated(table, &led, lower, upper));
             assert_eq!(reason.number() <= 3, is_set(&map, row, cell));
         }
     }

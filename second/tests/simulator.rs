@@ -201,6 +201,25 @@ fn a_preemption_that_a_pair_forbids_is_refused() {
 }
 
 #[test]
+fn a_preemption_of_tasks_at_the_ends_of_a_path_is_refused() {
+    let broken_with = |pairs: &[Pair]| {
+        let table = Table {
+            pairs: pairs.to_vec(),
+            ..figure2()
+        };
+        broken(&table, &nested())
+    };
+    let there = [precedence(11, 13), precedence(13, 23)];
+    assert_eq!(broken_with(&there), Some(Rule::Pair));
+    let back = [precedence(13, 11), precedence(23, 13)];
+    assert_eq!(broken_with(&back), Some(Rule::Pair));
+    let both_before_13 = [precedence(11, 13), precedence(23, 13)];
+    assert_eq!(broken_with(&both_before_13), None);
+    let with_one_way = [precedence(11, 13), one_way(13, 23)];
+    assert_eq!(broken_with(&with_one_way), None);
+}
+
+#[test]
 fn a_start_while_the_other_is_released_already_is_refused() {
     let jittery = with_jitters(1000);
     let started = |start| [instance(12, start, 3000), instance(23, 2600, 2700)];
@@ -321,6 +340,36 @@ fn the_kernel_keeps_to_thresholds_and_pairs() {
 }
 
 #[test]
+fn the_kernel_keeps_to_paths() {
+    let by_path = HeldBack {
+        by_path: true,
+        ..HeldBack::default()
+    };
+    let held_back_by = |pairs: &[Pair]| held_back(&of_priorities(&[1, 2, 3], pairs));
+    assert_eq!(held_back_by(&[precedence(1, 3), precedence(3, 2)]), by_path);
+    assert_eq!(held_back_by(&[precedence(2, 3), precedence(3, 1)]), by_path);
+    let before_one = [precedence(1, 3), precedence(2, 3)];
+    assert_eq!(held_back_by(&before_one), HeldBack::default());
+    let with_one_way = [precedence(1, 3), one_way(3, 2)];
+    assert_eq!(held_back_by(&with_one_way), HeldBack::default());
+}
+
+#[test]
+fn a_kernel_that_keeps_to_named_tasks_alone_passes_the_bound() {
+    let with_pairs = |pairs: &[Pair]| {
+        let mut table = of_priorities(&[1, 2, 3], pairs);
+        table.tasks[1].transaction = 2;
+        table
+    };
+    let table = with_pairs(&[precedence(1, 3), precedence(3, 2)]);
+    let both_ways = [one_way(1, 3), one_way(3, 1), one_way(2, 3), one_way(3, 2)];
+    let by_names = with_pairs(&both_ways);
+    let deepest = |kernel: &Table| run_all(kernel, arrivals(&[(0, 0, 5), (1, 1, 1)])).deepest_bytes;
+    assert_eq!((deepest(&table), chain_bound(&table)), (1, Ok(1)));
+    assert_eq!((deepest(&by_names), chain_bound(&by_names)), (2, Ok(2)));
+}
+
+#[test]
 fn a_pair_holds_back_from_every_place_of_the_stack() {
     let table = of_priorities(&[1, 2, 3], &[one_way(1, 3)]);
     let given = [(0, 0, 5), (1, 1, 4), (2, 2, 1)];
@@ -434,6 +483,7 @@ fn the_systems_of_the_gate_are_of_every_sort_and_the_page_has_their_line() {
         totals.thresholds,
         totals.one_way_pairs,
         totals.precedence_pairs,
+        totals.paths,
         totals.jitters,
         totals.missing_jitters,
         totals.responses,

@@ -43,9 +43,14 @@ fn assert_sorts_are_met(call: Call, cases: usize, sort_count: usize) {
 
 #[test]
 fn every_sort_is_met_by_the_generator() {
-    assert_sorts_are_met(Call::Patch, 3000, 20);
-    assert_sorts_are_met(Call::Reverse, 1500, 17);
-    assert_sorts_are_met(Call::RoundTrip, 1000, 19);
+    assert_sorts_are_met(Call::TableVerdict, 2000, 16);
+    assert_sorts_are_met(Call::PatchVerdict, 2000, 2);
+    assert_sorts_are_met(Call::Map, 2000, 7);
+    assert_sorts_are_met(Call::Patch, 3000, 31);
+    assert_sorts_are_met(Call::Run, 400, 11);
+    assert_sorts_are_met(Call::Reasons, 1200, 7);
+    assert_sorts_are_met(Call::Reverse, 1500, 19);
+    assert_sorts_are_met(Call::RoundTrip, 1000, 29);
 }
 
 /// A patch in which a missing jitter is read as another period than before.

@@ -1,4 +1,4 @@
-//! The answers that were stored before there were thresholds: cases without thresholds have them still.
+//! The answers that were stored before there were thresholds: cases that nothing new matters to have them still.
 
 use std::collections::BTreeSet;
 
@@ -16,7 +16,8 @@ fn stored_cases() -> Vec<Case> {
 }
 
 #[test]
-fn cases_without_thresholds_have_the_answers_that_they_had() {
+fn the_stored_cases_have_the_answers_that_they_had() {
+    assert_eq!(stored_cases().len(), 49);
     let answers = stored_cases()
         .into_iter()
         .map(|mut case| answer(&mut case) + "\n");

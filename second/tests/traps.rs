@@ -99,7 +99,7 @@ fn a_missing_jitter_is_no_zero_and_kept_as_written() {
 }
 
 #[test]
-fn a_precedence_covers_the_two_named_tasks_alone() {
+fn two_tasks_before_a_third_may_nest() {
     let tasks = [task(1, 1, 0, 9), task(2, 2, 0, 9), task(3, 3, 0, 9)];
     let mut asked = table(&tasks, &[precedence(1, 2), precedence(3, 2)]);
     asked.tasks[0].transaction = 2;

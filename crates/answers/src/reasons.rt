@@ -6,6 +6,7 @@ ghost use lib.ListN.{length};
 ghost use Rattle.rules.specs.Blocks.{records};
 ghost use Rattle.rules.specs.Records.{taskCount};
 ghost use Rattle.rules.specs.Refusals.{accepted, tableVerdict};
+ghost use Rattle.table.specs.Precedence.{beforeMap};
 use crate::digest;
 use crate::print;
 use crate::space;
@@ -14,46 +15,49 @@ use reason::places::reason_at;
 use reason::told::number_of;
 use rules::Verdict;
 use table::count::count_kind;
-use table::table_verdict;
+use table::judge_table;
 
 // What one half of a question is counted in.
 const HALF: u64 = 4_294_967_296;
 
-// Sets the reasons of the task at place i with each task: the number of places i and j at 64 * i + j.
-fn set_row(image: &[u8], i: usize, count: usize, numbers: &mut [u8])
+// Sets the reasons of the task at place i with each task: the number of that of places i and j at 64 * i + j. The rows of before say
+// which tasks come before which.
+fn set_row(image: &[u8], before: &[u64; 64], i: usize, count: usize, told: &mut [u8])
     requires { ⌜ (accepted (tableVerdict (now image)) ≡ true) × (count ≡ taskCount (records (now image))) ⌝ }
-    requires { ⌜ (i < count) × ((count ≤ 64) × (4096 ≤ length (now numbers))) ⌝ }
+    requires { ⌜ now before ≡ beforeMap (records (now image)) ⌝ }
+    requires { ⌜ (i < count) × ((count ≤ 64) × (4096 ≤ length (now told))) ⌝ }
 {
     let mut j: usize = 0;
     while j < count {
-        numbers[64 * i + j] = number_of(reason_at(image, i, j)) as u8;
+        told[64 * i + j] = number_of(reason_at(image, before, i, j)) as u8;
         j += 1;
     }
 }
 
 // The verdict on a table; where it is accepted, the reasons of all its pairs of places are set.
-fn set_all(image: &[u8], numbers: &mut [u8]) -> Verdict
-    requires { ⌜ 4096 ≤ length (now numbers) ⌝ }
+fn set_all(image: &[u8], told: &mut [u8]) -> Verdict
+    requires { ⌜ 4096 ≤ length (now told) ⌝ }
 {
-    let verdict = table_verdict(image);
+    let mut before = [0u64; 64];
+    let verdict = judge_table(image, &mut before);
     if verdict.number != 0 {
         return verdict;
     }
     let count = count_kind(image, 2);
     let mut i: usize = 0;
     while i < count {
-        set_row(image, i, count, numbers);
+        set_row(image, &before, i, count, told);
         i += 1;
     }
     verdict
 }
 
-// How many of the numbers are this one.
-fn count_of(numbers: &[u8], number: u8) -> u64 {
+// How many of the told are this one.
+fn count_of(told: &[u8], number: u8) -> u64 {
     let mut found: u64 = 0;
     let mut k: usize = 0;
-    while k < numbers.len() {
-        if numbers[k] == number {
+    while k < told.len() {
+        if told[k] == number {
             found += 1;
         }
         k += 1;
@@ -62,17 +66,17 @@ fn count_of(numbers: &[u8], number: u8) -> u64 {
 }
 
 // The verdict, the digest of all pairs' reasons, and how many pairs have each.
-fn answer_all(image: &[u8], numbers: &mut [u8])
-    requires { ⌜ 4096 ≤ length (now numbers) ⌝ }
+fn answer_all(image: &[u8], told: &mut [u8])
+    requires { ⌜ 4096 ≤ length (now told) ⌝ }
 {
-    let verdict = set_all(image, numbers);
+    let verdict = set_all(image, told);
     print::letter(b'W');
     print::number(verdict.number as u64);
     print::number(verdict.place as u64);
-    print::number(digest::of_bytes(numbers));
+    print::number(digest::of_bytes(told));
     let mut number: u8 = 1;
     while number <= 6 {
-        print::number(count_of(numbers, number));
+        print::number(count_of(told, number));
         number += 1;
     }
 }
@@ -97,9 +101,9 @@ fn answer_in(
     question_count: usize,
     image: &mut [u8],
     questions: &mut [u64],
-    numbers: &mut [u8],
+    told: &mut [u8],
 ) -> bool
-    requires { ⌜ 4096 ≤ length (now numbers) ⌝ }
+    requires { ⌜ 4096 ≤ length (now told) ⌝ }
 {
     if space::fill(image, image_bytes) < image_bytes {
         return false;
@@ -107,7 +111,7 @@ fn answer_in(
     if space::fill_rows(questions, question_count) < question_count {
         return false;
     }
-    answer_all(&image[..image_bytes], numbers);
+    answer_all(&image[..image_bytes], told);
     answer_questions(&image[..image_bytes], &questions[..question_count]);
     print::line_end();
     true
@@ -117,12 +121,12 @@ fn answer_in(
 pub fn answer(image_bytes: usize, question_count: usize) -> bool {
     let mut image = space::image();
     let mut questions = space::rows();
-    let mut numbers = space::reasons();
+    let mut told = space::reasons();
     answer_in(
         image_bytes,
         question_count,
         &mut image,
         &mut questions,
-        &mut numbers,
+        &mut told,
     )
 }

@@ -8,6 +8,7 @@ pub mod Merging
 pub mod Lacking
 pub mod Writing
 pub mod Touching
+pub mod Along
 pub mod Carrying
 pub mod Calling
 pub mod Running

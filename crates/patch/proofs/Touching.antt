@@ -4,7 +4,7 @@ use mathlib.Core.List.{List}
 use mathlib.Core.Bool.{Bool, false, _||_}
 use mathlib.Core.Path.{_≡_, sym, _∙_}
 use native.Mathlib.Omega.{arith}
-use borrow.Author.Tests.{eqb-true, eq-eqb, ne-eqb, lt-ltb, ltb-true, ltb-false}
+use borrow.Author.Tests.{eqb-true, eq-eqb, ne-eqb, lt-ltb, le-ltb, ltb-true, ltb-false}
 use lib.Bits.{bitOr}
 use lib.Dec.{ltb, eqb}
 use lib.ListN.{getD}
@@ -12,13 +12,13 @@ use Rattle.rules.specs.Numbers.{some}
 use Rattle.rules.specs.Preempt.{rowFrom}
 use Rattle.rules.specs.Records.{kindOf, numberOf, secondOf}
 use Rattle.rules.specs.Patches.{concerns}
-use Rattle.rules.proofs.Numbers.{either, never, lowest-passes, lowest-below, lowest-zero, some-false, some-more}
+use Rattle.rules.proofs.Numbers.{either, never, lowest-le, lowest-passes, lowest-below, lowest-zero, some-false, some-more}
 use Rattle.rules.proofs.Bits.{bit-none, bit-of-power, bit-or}
 use Rattle.rules.proofs.Maps.{row-at}
 use Rattle.rules.proofs.Tests.{same-tests}
 use Rattle.table.specs.Numbers.{Rising, placeAmong}
 use Rattle.sets.specs.Bits.{hasNumber}
-use Rattle.patch.specs.Touched.{Marks}
+use Rattle.patch.specs.Touched.{Marks, besideIn}
 
 -- no place is in the empty set
 pub marks-none : (count : ℕ) (test : ℕ → Bool) → ((i : ℕ) → i < count → test i ≡ false) → Marks count test 0
@@ -58,7 +58,11 @@ rising-apart ids count rising i j l m same =
     (λ u. absurd (omega (arith, rising j i (ltb-true j i u) l)))
     (λ u. omega (arith, ltb-false i j t, ltb-false j i u)))
 
--- so that a number that is found stands at its place alone
+-- a place that is not the count is below it
+pub place-inside : (ids : List ℕ) (count x place : ℕ) → place ≡ placeAmong ids count x → (place ≡ count → ⊥) → place < count
+place-inside ids count x place found other = omega (arith, lowest-le (λ k. eqb (getD ids k 0) x) count)
+
+-- of numbers that rise one that is found stands at its place alone
 pub marks-place : (ids : List ℕ) (count x place : ℕ) → Rising ids count → place ≡ placeAmong ids count x → place < count → Marks count (λ i. eqb x (getD ids i 0)) (2 ^ place)
 marks-place ids count x place rising found inside i l =
     let here : getD ids place 0 ≡ x = rw found (eqb-true (getD ids (placeAmong ids count x) 0) x (lowest-passes (λ k. eqb (getD ids k 0) x) count (omega arith))) in
@@ -75,6 +79,14 @@ marks-absent ids count x none =
     ne-eqb x (getD ids i 0)
     (λ e.
     never (eqb (getD ids i 0) x) (eq-eqb (getD ids i 0) x (sym e)) (lowest-below (λ k. eqb (getD ids k 0) x) count i (omega arith))))
+
+-- the row of a task that is found holds the places before or after it, and one that is not found has none
+pub marks-beside : (ids : List ℕ) (count : ℕ) (rows : List ℕ) (x place : ℕ) → place ≡ placeAmong ids count x → place < count → Marks count (besideIn ids count rows x) (getD rows place 0)
+marks-beside ids count rows x place found inside i l = rw (← found, lt-ltb place count inside)
+
+pub marks-beside-none : (ids : List ℕ) (count : ℕ) (rows : List ℕ) (x : ℕ) → placeAmong ids count x ≡ count → Marks count (besideIn ids count rows x) 0
+marks-beside-none ids count rows x none =
+    marks-none count (besideIn ids count rows x) (λ i l. rw (none, le-ltb count count (omega arith)))
 
 -- whether a patch record concerns a task, by the record's kind
 module _ (p : List ℕ) (id transaction : ℕ) where

@@ -33,7 +33,7 @@ fn absent_verdict(base: &[u8], patch: &[u8]) -> Verdict
     }
 }
 
-// The checks of a patch call that need no outcome: 1 to 8 of the base, 21 to 27 of the patch, then 9.
+// The checks of a patch call that need no outcome: 1 to 8 and 14 of the base, 21 to 27 of the patch, then 9.
 pub fn verdict_of_both(base: &[u8], patch: &[u8]) -> Verdict
     ensures { λ r. ⌜ r ≡ orElse (tableVerdict (now (base .entry))) (orElse (patchVerdict (now (patch .entry))) (absentRefusal (records (now (base .entry))) (records (now (patch .entry))))) ⌝ }
 {

@@ -1,22 +1,20 @@
 // The patch call: base, patch and base map are read, a room for the image and a room for the map are written.
 ghost use mathlib.Core.Path.{_≡_};
-ghost use mathlib.Core.Bool.{true, _||_};
+ghost use mathlib.Core.Bool.{_||_};
 ghost use Prim.Native.Nat.{_≤_};
 ghost use lib.Dec.{ltb};
 ghost use lib.ListN.{length};
-ghost use Rattle.rules.specs.Blocks.{records};
-ghost use Rattle.rules.specs.Patches.{outcome, touchedCount, patchedMap};
-ghost use Rattle.rules.specs.Refusals.{accepted, refusal, tableVerdict};
+ghost use Rattle.rules.specs.Refusals.{refusal};
 ghost use Rattle.rules.specs.Calls.{over, patchRefusal, patchAccepted, PatchCall, Offends};
-ghost use Rattle.image.specs.Held.{HoldsRecords};
 use crate::absent::verdict_of_both;
+use crate::carried::Carried;
 use crate::carried::carry_map;
 use crate::outcome::write_outcome;
 use image::records::record_part;
 use image::write::copy_bytes;
 use preempt::map::write_rows;
 use rules::Patched;
-use table::table_verdict;
+use table::judge_table;
 
 // A refused call: number and place, and all else 0.
 fn refused(number: u32, place: u32) -> Patched
@@ -51,23 +49,12 @@ fn is_short(map: usize, carried: usize, room: usize, outcome: usize) -> bool
 }
 
 // Writes an accepted outcome and its map to the lent rooms.
-fn write_rooms(
-    base: &[u8],
-    patch: &[u8],
-    image: &[u8],
-    map: &[u64],
-    room: &mut [u8],
-    carried: &mut [u64],
-) -> Patched
-    requires { ⌜ (accepted (tableVerdict (now base)) ≡ true) × (accepted (tableVerdict (now image)) ≡ true) ⌝ }
-    requires { ⌜ records (now image) ≡ outcome (records (now base)) (records (now patch)) ⌝ }
-    requires { ⌜ (length (now image) ≤ length (now room)) × (64 ≤ length (now carried)) ⌝ }
-    requires { ⌜ HoldsRecords (now patch) ⌝ }
-    ensures { λ r. ⌜ r ≡ patchAccepted (touchedCount (records (now (base .entry))) (records (now (patch .entry)))) (length (now (image .entry))) ⌝ }
+fn write_rooms(image: &[u8], found: Carried, room: &mut [u8], carried: &mut [u64]) -> Patched
+    requires { ⌜ (length (now image) ≤ 11776) × (length (now image) ≤ length (now room)) × (64 ≤ length (now carried)) ⌝ }
+    ensures { λ r. ⌜ r ≡ patchAccepted (found .touched) (length (now (image .entry))) ⌝ }
     ensures { λ _. ⌜ now (room .exit) ≡ over (now (image .entry)) (now (room .entry)) ⌝ }
-    ensures { λ _. ⌜ now (carried .exit) ≡ over (patchedMap (records (now (base .entry))) (records (now (patch .entry))) (now (map .entry))) (now (carried .entry)) ⌝ }
+    ensures { λ _. ⌜ now (carried .exit) ≡ over (found .map) (now (carried .entry)) ⌝ }
 {
-    let found = carry_map(base, patch, image, map);
     let rows = found.map;
     copy_bytes(image, room);
     write_rows(rows, carried);
@@ -97,13 +84,16 @@ fn apply_in(
     }
     let length = write_outcome(base, patch, space);
     let image = &space[..length];
-    if table_verdict(image).number != 0 {
+    let mut before = [0u64; 64];
+    let outcome = judge_table(image, &mut before);
+    if outcome.number != 0 {
         return refused(10, 0);
     }
     if is_short(map.len(), carried.len(), room.len(), length) {
         return refused(11, 0);
     }
-    write_rooms(base, patch, image, map, room, carried)
+    let found = carry_map(base, patch, image, before, map);
+    write_rooms(image, found, room, carried)
 }
 
 // Applies a patch to a base: writes the outcome's image and its map to the lent rooms and answers the number of touched

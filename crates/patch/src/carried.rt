@@ -10,10 +10,11 @@ ghost use Rattle.rules.specs.Patches.{outcome};
 ghost use Rattle.rules.specs.Refusals.{accepted, tableVerdict};
 ghost use Rattle.image.specs.Held.{HoldsRecords};
 ghost use Rattle.sets.specs.Bits.{column};
+ghost use Rattle.table.specs.Precedence.{beforeMap};
 ghost use Rattle.patch.specs.Carried.{cellCarried, cellNew, carriedBy, MapCarried};
 use crate::touched::count_places;
 use crate::touched::touched_tasks;
-use preempt::barred::read_barred;
+use preempt::barred::mark_one_way;
 use preempt::columns::Columns;
 use preempt::columns::IDS;
 use preempt::columns::TRANSACTIONS;
@@ -23,6 +24,7 @@ use preempt::map::may_preempt_at;
 use preempt::tasks::read_tasks;
 use sets::bits::is_set;
 use sets::bits::with_bit_if;
+use sets::rows::both_ways;
 use table::count::count_kind;
 use table::place::numbers_from;
 use table::place::place_of;
@@ -52,7 +54,7 @@ fn old_places(base: &[u8], ids: &[u32], count: usize) -> [u32; 64]
 }
 
 // The row of a lent map at a place. A row that it does not have is 0.
-fn row_before(rows: &[u64], place: u32) -> u64
+fn base_row(rows: &[u64], place: u32) -> u64
     ensures { λ r. ⌜ r ≡ getD (now (rows .entry)) place 0 ⌝ }
 {
     let i = place as usize;
@@ -74,24 +76,24 @@ fn is_cell_set(bits: u64, place: u32) -> bool
 }
 
 // Whether cell j is set in the new row i of a task that is not touched: with a touched task it is decided, and any other is
-// that of the base's row (before), which has it where the other task stood.
+// that of the base's row, which has it where the other task stood.
 fn is_carried_set(
     columns: &Columns,
     bars: u64,
     touched: u64,
     old: &[u32],
-    before: u64,
+    row: u64,
     i: usize,
     j: usize,
 ) -> bool
     requires { ⌜ (i < 64) × ((j < 64) × (64 ≤ length (now old))) ⌝ }
-    ensures { λ r. ⌜ r ≡ cellCarried (now (columns .entry)) bars touched (now (old .entry)) before i j ⌝ }
+    ensures { λ r. ⌜ r ≡ cellCarried (now (columns .entry)) bars touched (now (old .entry)) row i j ⌝ }
 {
     if is_set(touched, j) {
         return may_preempt_at(columns, bars, i, j);
     }
     let place = old[j];
-    is_cell_set(before, place)
+    is_cell_set(row, place)
 }
 
 // Row i of the new map from the base's row, for a task that is not touched.
@@ -101,16 +103,16 @@ fn carried_row(
     bars: u64,
     touched: u64,
     old: &[u32],
-    before: u64,
+    row: u64,
     i: usize,
 ) -> u64
     requires { ⌜ (i < 64) × ((count ≤ 64) × (64 ≤ length (now old))) ⌝ }
-    ensures { λ r. ⌜ r ≡ rowFrom count (cellCarried (now (columns .entry)) bars touched (now (old .entry)) before i) ⌝ }
+    ensures { λ r. ⌜ r ≡ rowFrom count (cellCarried (now (columns .entry)) bars touched (now (old .entry)) row i) ⌝ }
 {
     let mut bits: u64 = 0;
     let mut j: usize = 0;
     while j < count {
-        let set = is_carried_set(columns, bars, touched, old, before, i, j);
+        let set = is_carried_set(columns, bars, touched, old, row, i, j);
         bits = with_bit_if(bits, j, set);
         j += 1;
     }
@@ -133,8 +135,8 @@ fn new_row(
     if is_set(touched, i) {
         return decided_row(columns, count, bars, i);
     }
-    let before = row_before(rows, old[i]);
-    carried_row(columns, count, bars, touched, old, before, i)
+    let row = base_row(rows, old[i]);
+    carried_row(columns, count, bars, touched, old, row, i)
 }
 
 // The rows of the new map.
@@ -158,24 +160,37 @@ fn carried_rows(
     map
 }
 
-// The map of an accepted outcome from the base's map, and how many of its tasks the patch touches.
-pub fn carry_map(base: &[u8], patch: &[u8], image: &[u8], rows: &[u64]) -> Carried
+// The map of an accepted outcome from the base's map, and how many of its tasks the patch touches. The rows of before say which of
+// the outcome's tasks come before which.
+pub fn carry_map(
+    base: &[u8],
+    patch: &[u8],
+    image: &[u8],
+    before: [u64; 64],
+    rows: &[u64],
+) -> Carried
     requires { ⌜ (accepted (tableVerdict (now base)) ≡ true) × (accepted (tableVerdict (now image)) ≡ true) ⌝ }
     requires { ⌜ records (now image) ≡ outcome (records (now base)) (records (now patch)) ⌝ }
+    requires { ⌜ before ≡ beforeMap (records (now image)) ⌝ }
     requires { ⌜ HoldsRecords (now patch) ⌝ }
     ensures { λ r. ⌜ MapCarried (records (now (base .entry))) (records (now (patch .entry))) (now (rows .entry)) r ⌝ }
 {
     let tasks = read_tasks(image);
     let ids = column_of(&tasks.columns, IDS);
-    let barred = read_barred(image, ids, tasks.count);
-    let touched = touched_tasks(
-        patch,
-        ids,
-        column_of(&tasks.columns, TRANSACTIONS),
-        tasks.count,
-    );
+    let mut kept_apart = before;
+    both_ways(&mut kept_apart, tasks.count);
+    let transactions = column_of(&tasks.columns, TRANSACTIONS);
+    let touched = touched_tasks(patch, ids, transactions, tasks.count, &kept_apart);
+    mark_one_way(&mut kept_apart, image, ids, tasks.count);
     let old = old_places(base, ids, tasks.count);
-    let map = carried_rows(&tasks.columns, &barred, tasks.count, touched, &old, rows);
+    let map = carried_rows(
+        &tasks.columns,
+        &kept_apart,
+        tasks.count,
+        touched,
+        &old,
+        rows,
+    );
     Carried {
         map,
         touched: count_places(touched, tasks.count),

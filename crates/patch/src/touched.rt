@@ -1,4 +1,4 @@
-// Touched tasks: those that a patch record concerns, as a set of places.
+// Touched tasks, as a set of places: those that a patch record concerns, and those along the paths of a precedence pair.
 ghost use mathlib.Core.Path.{_≡_};
 ghost use Prim.Native.Nat.{_≤_};
 ghost use lib.Dec.{eqb};
@@ -9,7 +9,7 @@ ghost use Rattle.rules.specs.Patches.{concerns};
 ghost use Rattle.rules.specs.Preempt.{bitAt};
 ghost use Rattle.table.specs.Numbers.{Rising};
 ghost use Rattle.image.specs.Held.{HoldsRecords};
-ghost use Rattle.patch.specs.Touched.{Marks, touchedAt};
+ghost use Rattle.patch.specs.Touched.{Marks, besideIn, alongIn, touchedIn, touchedAt};
 use image::bytes::byte_at;
 use image::bytes::two_bytes;
 use image::records::record_at;
@@ -54,21 +54,74 @@ fn concerned(ids: &[u32], transactions: &[u32], count: usize, fields: &[u8]) -> 
     0
 }
 
-// The tasks that some record of the patch concerns.
-pub fn touched_tasks(patch: &[u8], ids: &[u32], transactions: &[u32], count: usize) -> u64
+// The tasks that come before or after the one with an id, where a task has it. The rows say which do.
+fn tasks_beside(ids: &[u32], count: usize, beside: &[u64; 64], id: u32) -> u64
+    requires { ⌜ (count ≤ 64) × (count ≤ length (now ids)) ⌝ }
+    requires { ⌜ Rising (now ids) count ⌝ }
+    ensures { λ r. ⌜ Marks count (besideIn (now (ids .entry)) count (now (beside .entry)) id) r ⌝ }
+{
+    let place = place_of(ids, count, id);
+    if place == count {
+        return 0;
+    }
+    beside[place]
+}
+
+// The tasks along the paths of a patch record: those before or after one of its two, where it is a precedence pair.
+fn tasks_along(ids: &[u32], count: usize, beside: &[u64; 64], fields: &[u8]) -> u64
+    requires { ⌜ (count ≤ 64) × (count ≤ length (now ids)) ⌝ }
+    requires { ⌜ Rising (now ids) count ⌝ }
+    ensures { λ r. ⌜ Marks count (alongIn (now (ids .entry)) count (now (beside .entry)) (now (fields .entry))) r ⌝ }
+{
+    if byte_at(fields, 0) != 3 {
+        return 0;
+    }
+    if byte_at(fields, 1) != 1 {
+        return 0;
+    }
+    let first = tasks_beside(ids, count, beside, two_bytes(fields, 2));
+    let second = tasks_beside(ids, count, beside, two_bytes(fields, 4));
+    union(first, second)
+}
+
+// The tasks that a patch record touches.
+fn touched_by(
+    ids: &[u32],
+    transactions: &[u32],
+    count: usize,
+    beside: &[u64; 64],
+    fields: &[u8],
+) -> u64
+    requires { ⌜ (count ≤ 64) × ((count ≤ length (now ids)) × (count ≤ length (now transactions))) ⌝ }
+    requires { ⌜ Rising (now ids) count ⌝ }
+    ensures { λ r. ⌜ Marks count (touchedIn (now (ids .entry)) (now (transactions .entry)) count (now (beside .entry)) (now (fields .entry))) r ⌝ }
+{
+    union(
+        concerned(ids, transactions, count, fields),
+        tasks_along(ids, count, beside, fields),
+    )
+}
+
+// The tasks of the outcome that some record of the patch touches. The rows say which of them come before or after which; along the
+// paths of the base no other task is touched.
+pub fn touched_tasks(
+    patch: &[u8],
+    ids: &[u32],
+    transactions: &[u32],
+    count: usize,
+    beside: &[u64; 64],
+) -> u64
     requires { ⌜ (count ≤ 64) × ((count ≤ length (now ids)) × (count ≤ length (now transactions))) ⌝ }
     requires { ⌜ Rising (now ids) count ⌝ }
     requires { ⌜ HoldsRecords (now patch) ⌝ }
-    ensures { λ r. ⌜ Marks count (touchedAt (records (now (patch .entry))) (now (ids .entry)) (now (transactions .entry))) r ⌝ }
+    ensures { λ r. ⌜ Marks count (touchedAt (records (now (patch .entry))) (now (ids .entry)) (now (transactions .entry)) count (now (beside .entry))) r ⌝ }
 {
     let records = record_count(patch);
     let mut set: u64 = 0;
     let mut k: usize = 0;
     while k < records {
-        set = union(
-            set,
-            concerned(ids, transactions, count, record_at(patch, k)),
-        );
+        let fields = record_at(patch, k);
+        set = union(set, touched_by(ids, transactions, count, beside, fields));
         k += 1;
     }
     set

@@ -1,5 +1,5 @@
 pub mod Accepted
-pub mod Pairs
+pub mod Barring
 pub mod Filling
 pub mod Reading
 pub mod Calls

@@ -6,23 +6,26 @@ use mathlib.Core.Logic.{_↔_, _⊎_, inl, inr, ⊎-elim}
 use mathlib.Core.Path.{_≡_, refl, ap, sym, _∙_}
 use native.Mathlib.Nat.{mod-lt}
 use native.Mathlib.Omega.{arith}
-use borrow.Author.Tests.{lt-ltb, ltb-true, ltb-false, eq-eqb, eqb-true, eqb-false, not-true}
+use borrow.Author.Tests.{lt-ltb, ltb-true, ltb-false, eqb-true, eqb-false, not-true}
 use lib.Dec.{ltb, eqb}
 use lib.ListN.{length, getD}
-use Rattle.rules.specs.Numbers.{Bytes, some}
+use Rattle.rules.specs.Numbers.{Bytes}
 use Rattle.rules.specs.Blocks.{records}
-use Rattle.rules.specs.Records.{numberOf, secondOf, sortOf, tasks, pairs, taskCount, taskAt, periodIn}
-use Rattle.rules.specs.Preempt.{distance, bars, barred, yields, decided, cell, mapOf}
+use Rattle.rules.specs.Records.{tasks, pairs, taskCount, taskAt, periodIn}
+use Rattle.rules.specs.Preempt.{distance, paired, ComesBefore, comesBefore, beside, barred, yields, decided, cell, mapOf}
 use Rattle.rules.specs.Refusals.{accepted, tableVerdict}
-use Rattle.rules.proofs.Numbers.{either, never, lowest-none, some-true, some-false}
-use Rattle.rules.proofs.Tests.{both-first, both-second}
+use Rattle.rules.proofs.Numbers.{either, never}
+use Rattle.rules.proofs.Tests.{both-first, both-second, neither-first, neither-second}
+use Rattle.rules.proofs.Before.{paired-by, paired-of, before-path, path-before}
+use Rattle.rules.proofs.Patch.Members.{has-kind-at}
+use Rattle.rules.proofs.Table.Kinds.{kind-ofKind}
 use Rattle.rules.proofs.Table.Ranges.{task-ranges}
 use Rattle.rules.proofs.Table.Shape.{Shape}
 use Rattle.rules.proofs.Table.Listed.{Listed, table-of}
 use Rattle.rules.proofs.Maps.{cell-of-map}
 use Rattle.rules.proofs.Distance.{distance-above, distance-below}
 use Rattle.rules.proofs.Reasons.{timely, may-preempt-was}
-use Rattle.preempt.specs.Paper.{Together, period, Psi, Forbids, Reaches, Preempted}
+use Rattle.preempt.specs.Paper.{Together, period, Psi, Forbids, Overlaps, Preempted}
 
 -- one of two tests holds
 either-holds : (a b : Bool) → (a || b) ≡ true → (a ≡ true) ⊎ (b ≡ true)
@@ -33,35 +36,37 @@ second-holds : (a b : Bool) → b ≡ true → (a || b) ≡ true
 second-holds true b h = refl
 second-holds false b h = h
 
--- a pair bars exactly what it forbids
-bars-forbids : (r : List ℕ) (a b : ℕ) → bars r a b ≡ true → Forbids r a b
-bars-forbids r a b h =
-    ⊎-elim
-    (λ w. inl (eqb-true (numberOf r) a (both-first (eqb (numberOf r) a) _ w), eqb-true (secondOf r) b (both-second (eqb (numberOf r) a) _ w)))
-    (λ w.
-    let other = both-second (eqb (sortOf r) 1) (eqb (numberOf r) b && eqb (secondOf r) a) w in
-    inr (eqb-true (sortOf r) 1 (both-first (eqb (sortOf r) 1) _ w), eqb-true (numberOf r) b (both-first (eqb (numberOf r) b) _ other), eqb-true (secondOf r) a (both-second (eqb (numberOf r) b) _ other)))
-    (either-holds (eqb (numberOf r) a && eqb (secondOf r) b) _ h)
+-- a task may not be preempted by another exactly where a one-way pair forbids it or a path leads from one to the other
+module _ (rs : List (List ℕ)) (named : Listed rs) (a b : ℕ) where
+  barred-none : ((k : ℕ) → k < length (pairs rs) → Forbids (getD (pairs rs) k []) a b → ⊥) → (ComesBefore rs a b → ⊥) → (ComesBefore rs b a → ⊥)
+      → barred rs a b ≡ false
+  unfolding barred
+  barred-none allowed not-before not-after =
+      let free : paired 0 rs a b ≡ false =
+      either (paired 0 rs a b)
+      (λ t.
+      let (k, below, sort, first, second) = paired-by 0 rs a b t in
+      absurd (allowed k below (sort, first, second)))
+      (λ t. t) in
+      rw (free, no-path a b not-before, no-path b a not-after)
+    where
+      no-path : (x y : ℕ) → (ComesBefore rs x y → ⊥) → comesBefore rs x y ≡ false
+      no-path x y none = either (comesBefore rs x y) (λ t. absurd (none (before-path rs x y t))) (λ t. t)
 
-forbids-bars : (r : List ℕ) (a b : ℕ) → Forbids r a b → bars r a b ≡ true
-forbids-bars r a b (inl w) = rw (eq-eqb (numberOf r) a (w .0), eq-eqb (secondOf r) b (w .1))
-forbids-bars r a b (inr w) =
-    second-holds (eqb (numberOf r) a && eqb (secondOf r) b) _
-    (rw (eq-eqb (sortOf r) 1 (w .0), eq-eqb (numberOf r) b (w .1), eq-eqb (secondOf r) a (w .2)))
+  unforbidden : barred rs a b ≡ false → (k : ℕ) → k < length (pairs rs) → Forbids (getD (pairs rs) k []) a b → ⊥
+  unfolding barred
+  unforbidden free k h (sort, first, second) =
+      let r = getD (pairs rs) k [] in
+      never (paired 0 rs a b) (rw (first, second) at (paired-of 0 rs r (kind-ofKind 3 rs k h) (has-kind-at 3 rs k h) sort))
+      (neither-first (paired 0 rs a b) (beside rs a b) free)
 
--- no pair forbids it exactly where it is not barred
-barred-none : (rs : List (List ℕ)) (a b : ℕ) → ((k : ℕ) → k < length (pairs rs) → Forbids (getD (pairs rs) k []) a b → ⊥) → barred rs a b ≡ false
-unfolding barred
-barred-none rs a b none =
-    let test : ℕ → Bool = λ k. bars (getD (pairs rs) k []) a b in
-    some-false test (length (pairs rs))
-    (lowest-none test (length (pairs rs)) (λ k h. either (test k) (λ t. absurd (none k h (bars-forbids (getD (pairs rs) k []) a b t))) (λ t. t)))
-
-none-barred : (rs : List (List ℕ)) (a b : ℕ) → barred rs a b ≡ false → (k : ℕ) → k < length (pairs rs) → Forbids (getD (pairs rs) k []) a b → ⊥
-unfolding barred
-none-barred rs a b free k h w =
-    let test : ℕ → Bool = λ k. bars (getD (pairs rs) k []) a b in
-    never (some test (length (pairs rs))) (some-true test (length (pairs rs)) k h (forbids-bars (getD (pairs rs) k []) a b w)) free
+  unordered : barred rs a b ≡ false → (ComesBefore rs a b → ⊥) × (ComesBefore rs b a → ⊥)
+  unfolding barred
+  unordered free =
+      let apart = neither-second (paired 0 rs a b) (beside rs a b) free in (
+        λ path. never (comesBefore rs a b) (path-before rs named a b path) (neither-first (comesBefore rs a b) (comesBefore rs b a) apart),
+        λ path. never (comesBefore rs b a) (path-before rs named b a path) (neither-second (comesBefore rs a b) (comesBefore rs b a) apart),
+      )
 
 -- the tasks at two places of a table
 module _ (rs : List (List ℕ)) (shape : Shape rs) (named : Listed rs) (i j : ℕ) (h : i < taskCount rs) (l : j < taskCount rs) where
@@ -99,7 +104,7 @@ module _ (rs : List (List ℕ)) (shape : Shape rs) (named : Listed rs) (i j : �
   -- psi, where it matters
   module _ (psi : ℕ) (is : Together rs i j → Psi rs i j psi) where
     -- the test of timing is the last line of (8)
-    timing-says : timely (period rs i) (taskAt rs i) (taskAt rs j) ≡ true → (Together rs i j → ⊥) ⊎ Reaches rs i j psi
+    timing-says : timely (period rs i) (taskAt rs i) (taskAt rs j) ≡ true → (Together rs i j → ⊥) ⊎ Overlaps rs i j psi
     timing-says set =
         either (eqb (taskAt rs i .transaction) (taskAt rs j .transaction))
         (λ t.
@@ -112,20 +117,20 @@ module _ (rs : List (List ℕ)) (shape : Shape rs) (named : Listed rs) (i j : �
         (λ t. inl (eqb-false (taskAt rs i .transaction) (taskAt rs j .transaction) t))
 
     -- the other way round, within one transaction
-    reaches : Together rs i j → Reaches rs i j psi
+    overlaps : Together rs i j → Overlaps rs i j psi
         → (ltb (distance (period rs i) (taskAt rs i .offset) (taskAt rs j .offset)) (taskAt rs j .jitter)
         || ltb (period rs i - distance (period rs i) (taskAt rs i .offset) (taskAt rs j .offset)) (taskAt rs i .response - taskAt rs i .offset))
         ≡ true
-    reaches same (inl v) = rw (lt-ltb _ (taskAt rs j .jitter) (rw (psi-distance psi same (is same)) at v))
-    reaches same (inr v) = second-holds (ltb (distance (period rs i) (taskAt rs i .offset) (taskAt rs j .offset)) (taskAt rs j .jitter)) _ (lt-ltb _ (taskAt rs i .response - taskAt rs i .offset) (rw (psi-distance psi same (is same)) at v))
+    overlaps same (inl v) = rw (lt-ltb _ (taskAt rs j .jitter) (rw (psi-distance psi same (is same)) at v))
+    overlaps same (inr v) = second-holds (ltb (distance (period rs i) (taskAt rs i .offset) (taskAt rs j .offset)) (taskAt rs j .jitter)) _ (lt-ltb _ (taskAt rs i .response - taskAt rs i .offset) (rw (psi-distance psi same (is same)) at v))
 
     -- and in either case
-    timing-holds : (Together rs i j → ⊥) ⊎ Reaches rs i j psi → timely (period rs i) (taskAt rs i) (taskAt rs j) ≡ true
+    timing-holds : (Together rs i j → ⊥) ⊎ Overlaps rs i j psi → timely (period rs i) (taskAt rs i) (taskAt rs j) ≡ true
     timing-holds rule =
         either (eqb (taskAt rs i .transaction) (taskAt rs j .transaction))
         (λ t.
         let same = eqb-true (taskAt rs i .transaction) (taskAt rs j .transaction) t in
-        ⊎-elim (λ w. absurd (w same)) (λ w. rw t (reaches same w)) rule)
+        ⊎-elim (λ w. absurd (w same)) (λ w. rw t (overlaps same w)) rule)
         (λ t. rw t)
 
     -- the cell is set exactly where (8) says so
@@ -137,14 +142,17 @@ module _ (rs : List (List ℕ)) (shape : Shape rs) (named : Listed rs) (i j : �
           λ set.
               let decision : (yields (taskAt rs i) (taskAt rs j) && (not bar && timely (period rs i) (taskAt rs i) (taskAt rs j))) ≡ true = sym here ∙ set in
               let rest = both-second (yields (taskAt rs i) (taskAt rs j)) _ decision in
+              let free = not-true bar (both-first (not bar) _ rest) in
               record {
                 urgent = ltb-true (taskAt rs i .threshold) (taskAt rs j .priority) (both-first _ _ decision);
-                allowed = none-barred rs (taskAt rs i .id) (taskAt rs j .id) (not-true bar (both-first (not bar) _ rest));
+                allowed = unforbidden rs named (taskAt rs i .id) (taskAt rs j .id) free;
+                not-before = unordered rs named (taskAt rs i .id) (taskAt rs j .id) free .0;
+                not-after = unordered rs named (taskAt rs i .id) (taskAt rs j .id) free .1;
                 timely = timing-says (both-second (not bar) _ rest);
               },
           λ p.
               here
-              ∙ rw (lt-ltb (taskAt rs i .threshold) (taskAt rs j .priority) (p .urgent), barred-none rs (taskAt rs i .id) (taskAt rs j .id) (p .allowed))
+              ∙ rw (lt-ltb (taskAt rs i .threshold) (taskAt rs j .priority) (p .urgent), barred-none rs named (taskAt rs i .id) (taskAt rs j .id) (p .allowed) (p .not-before) (p .not-after))
               (timing-holds (p .timely)),
         )
 

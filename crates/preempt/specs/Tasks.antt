@@ -1,14 +1,13 @@
 -- What is read of a table's tasks and pairs, and the decision from it.
 use Prim.Native.Nat.{ℕ, _+_, _*_}
 use mathlib.Core.List.{List}
-use mathlib.Core.Bool.{Bool, cond}
+use mathlib.Core.Bool.{Bool}
 use mathlib.Core.Path.{_≡_}
-use lib.Dec.{eqb}
 use lib.ListN.{length, getD, take, drop}
 use Rattle.rules.specs.declared.Task.{Task}
 use Rattle.rules.specs.Records.{taskCount, taskAt, periodAt}
 use Rattle.rules.specs.Preempt.{mayPreempt, barred, bitAt, mapFrom}
-use Rattle.sets.specs.Bits.{column, withCell}
+use Rattle.sets.specs.Bits.{column}
 
 -- the column of 64 numbers that starts at a number
 abbrev pub columnFrom : ℕ → List ℕ → List ℕ
@@ -64,11 +63,7 @@ pub record TasksRead (rs : List (List ℕ)) (n : ℕ) (all : List ℕ) : Type 0 
   pub count : n ≡ taskCount rs
   pub columns : ColumnsTo rs (taskCount rs) all
 
--- rows with what a pair of this sort and these places forbids: one way, or for a precedence both
-abbrev pub withPair : List ℕ → ℕ → ℕ → ℕ → List ℕ
-withPair rows sort i j = cond (eqb sort 1) (withCell (withCell rows i j) j i) (withCell rows i j)
-
--- cell j of row i is set where a pair forbids that the task at place i is preempted by the one at place j
+-- cell j of row i is set where the task at place i may not be preempted by the one at place j
 unfoldable pub barredMap : List (List ℕ) → List ℕ
 barredMap rs = mapFrom (taskCount rs) (λ i j. barred rs (taskAt rs i .id) (taskAt rs j .id))
 
@@ -90,11 +85,11 @@ taskRead columns i =
 abbrev pub periodRead : List ℕ → ℕ → ℕ
 periodRead columns i = getD columns (512 + i) 0
 
--- the decision for the tasks at places i and j, from the columns as they were read and the bits of those that a pair keeps
+-- the decision for the tasks at places i and j, from the columns as they were read and the bits of those that are barred
 -- from preempting the first
 unfoldable pub decidedOn : List ℕ → ℕ → ℕ → ℕ → Bool
 decidedOn columns bars i j = mayPreempt (periodRead columns i) (bitAt bars j) (taskRead columns i) (taskRead columns j)
 
--- the same, from the rows of all that pairs forbid
+-- the same, from the rows of all that is barred
 abbrev pub decidedBy : List ℕ → List ℕ → ℕ → ℕ → Bool
 decidedBy columns barred i = decidedOn columns (getD barred i 0) i

@@ -7,8 +7,9 @@ ghost use Rattle.rules.specs.Blocks.{records};
 ghost use Rattle.rules.specs.Preempt.{rowFrom, mapFrom, mapOf};
 ghost use Rattle.rules.specs.Refusals.{accepted, tableVerdict};
 ghost use Rattle.rules.specs.Calls.{over, mapVerdict, mapAfter};
+ghost use Rattle.table.specs.Precedence.{beforeMap};
 ghost use Rattle.preempt.specs.Tasks.{decidedOn, decidedBy};
-use crate::barred::read_barred;
+use crate::barred::mark_one_way;
 use crate::columns::Columns;
 use crate::columns::IDS;
 use crate::columns::column_of;
@@ -19,9 +20,10 @@ use crate::tasks::read_tasks;
 use rules::Verdict;
 use sets::bits::is_set;
 use sets::bits::with_bit_if;
-use table::table_verdict;
+use sets::rows::both_ways;
+use table::judge_table;
 
-// Whether the task at place i may be preempted by the one at place j; bars holds the places that a pair keeps from it.
+// Whether the task at place i may be preempted by the one at place j; bars holds the places that are barred from it.
 pub fn may_preempt_at(columns: &Columns, bars: u64, i: usize, j: usize) -> bool
     requires { ⌜ (i < 64) × (j < 64) ⌝ }
     ensures { λ r. ⌜ r ≡ decidedOn (now (columns .entry)) bars i j ⌝ }
@@ -45,7 +47,7 @@ pub fn decided_row(columns: &Columns, count: usize, bars: u64, i: usize) -> u64
     row
 }
 
-// The map of the tasks, where the rows of barred say which pairs of places are forbidden.
+// The map of the tasks, where the rows of barred say which places are barred from which.
 fn map_of(columns: &Columns, barred: &[u64; 64], count: usize) -> [u64; 64]
     requires { ⌜ count ≤ 64 ⌝ }
     ensures { λ r. ⌜ r ≡ mapFrom count (decidedBy (now (columns .entry)) (now (barred .entry))) ⌝ }
@@ -71,14 +73,22 @@ pub fn write_rows(map: [u64; 64], lent: &mut [u64])
     }
 }
 
-// The map of an accepted table.
-fn table_map(image: &[u8]) -> [u64; 64]
+// The map of an accepted table, of whose tasks before says which come before which.
+fn table_map(image: &[u8], before: [u64; 64]) -> [u64; 64]
     requires { ⌜ accepted (tableVerdict (now image)) ≡ true ⌝ }
+    requires { ⌜ before ≡ beforeMap (records (now image)) ⌝ }
     ensures { λ r. ⌜ r ≡ mapOf (records (now (image .entry))) ⌝ }
 {
     let tasks = read_tasks(image);
-    let barred = read_barred(image, column_of(&tasks.columns, IDS), tasks.count);
-    map_of(&tasks.columns, &barred, tasks.count)
+    let mut rows = before;
+    both_ways(&mut rows, tasks.count);
+    mark_one_way(
+        &mut rows,
+        image,
+        column_of(&tasks.columns, IDS),
+        tasks.count,
+    );
+    map_of(&tasks.columns, &rows, tasks.count)
 }
 
 // Fills a lent map from a table image: the verdict, and the map of the table in the first 64 rows. A refusal writes nothing.
@@ -86,7 +96,8 @@ pub fn fill_map(image: &[u8], rows: &mut [u64]) -> Verdict
     ensures { λ r. ⌜ r ≡ mapVerdict (now (image .entry)) (now (rows .entry)) ⌝ }
     ensures { λ r. ⌜ now (rows .exit) ≡ mapAfter (now (image .entry)) (now (rows .entry)) ⌝ }
 {
-    let verdict = table_verdict(image);
+    let mut before = [0u64; 64];
+    let verdict = judge_table(image, &mut before);
     if verdict.number != 0 {
         return verdict;
     }
@@ -96,7 +107,7 @@ pub fn fill_map(image: &[u8], rows: &mut [u64]) -> Verdict
             place: 0,
         };
     }
-    write_rows(table_map(image), rows);
+    write_rows(table_map(image, before), rows);
     Verdict {
         number: 0,
         place: 0,

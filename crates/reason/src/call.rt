@@ -7,7 +7,7 @@ use crate::places::task_place;
 use crate::told::number_of;
 use rules::Reasoned;
 use table::count::count_kind;
-use table::table_verdict;
+use table::judge_table;
 
 // A refused call.
 fn refused(number: u32, place: u32) -> Reasoned
@@ -24,7 +24,8 @@ fn refused(number: u32, place: u32) -> Reasoned
 pub fn find_reason(image: &[u8], low: u32, high: u32) -> Reasoned
     ensures { λ r. ⌜ r ≡ reasonAnswer (now (image .entry)) low high ⌝ }
 {
-    let verdict = table_verdict(image);
+    let mut before = [0u64; 64];
+    let verdict = judge_table(image, &mut before);
     if verdict.number != 0 {
         return refused(verdict.number, verdict.place);
     }
@@ -37,6 +38,6 @@ pub fn find_reason(image: &[u8], low: u32, high: u32) -> Reasoned
     Reasoned {
         number: 0,
         place: 0,
-        reason: number_of(reason_at(image, i, j)),
+        reason: number_of(reason_at(image, &before, i, j)),
     }
 }

@@ -6,6 +6,7 @@ ghost use Rattle.rules.specs.Blocks.{records};
 ghost use Rattle.rules.specs.Records.{tasks, taskCount, placeOf};
 ghost use Rattle.rules.specs.Preempt.{reasonAt};
 ghost use Rattle.rules.specs.Refusals.{accepted, tableVerdict};
+ghost use Rattle.table.specs.Precedence.{beforeMap};
 use crate::pairs::is_barred;
 use preempt::decide::reason_of;
 use preempt::tasks::period_at;
@@ -24,17 +25,18 @@ pub fn task_place(image: &[u8], id: u32) -> usize
     place_from(image, first, count, id)
 }
 
-// Why the task at place i may be preempted by the one at place j, or why not.
-pub fn reason_at(image: &[u8], i: usize, j: usize) -> Reason
+// Why the task at place i may be preempted by the one at place j, or why not, in an accepted table of whose tasks before says which
+// come before which.
+pub fn reason_at(image: &[u8], before: &[u64; 64], i: usize, j: usize) -> Reason
     requires { ⌜ accepted (tableVerdict (now image)) ≡ true ⌝ }
+    requires { ⌜ now before ≡ beforeMap (records (now image)) ⌝ }
     requires { ⌜ (i < taskCount (records (now image))) × (j < taskCount (records (now image))) ⌝ }
     ensures { λ r. ⌜ r ≡ reasonAt (records (now (image .entry))) i j ⌝ }
 {
     let first = count_kind(image, 1);
-    let count = count_kind(image, 2);
     let period = period_at(image, first, i);
     let low = task_at(image, first, i, period);
     let high = task_at(image, first, j, period_at(image, first, j));
-    let barred = is_barred(image, first + count, low.id, high.id);
+    let barred = is_barred(image, before, i, j, low.id, high.id);
     reason_of(period, barred, low, high)
 }

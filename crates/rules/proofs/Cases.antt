@@ -9,10 +9,11 @@ use Rattle.rules.specs.declared.Form.the-variants.{Table}
 use Rattle.rules.specs.declared.Reason.the-variants.{Transaction, Jitter, Response, Priority, Pair, Timing}
 use Rattle.rules.specs.Numbers.{sumTo, largestTo, upTo, lowest, blank}
 use Rattle.rules.specs.Records.{taskAt, ofKind, formWrong, rangeWrong, tooMany, referenceWrong}
-use Rattle.rules.specs.Preempt.{reason, mayPreempt, barred, reasonAt, decided, mapFrom}
+use Rattle.rules.specs.Reach.{reaches}
+use Rattle.rules.specs.Preempt.{reason, mayPreempt, barred, reasonAt, decided, mapFrom, paired, comesBefore}
 use Rattle.rules.specs.Chains.{related}
 use Rattle.rules.specs.Patches.{same, has, takenOut, putIn, without, put, outcome, touched, carried}
-use Rattle.rules.specs.Refusals.{refusal, recordsVerdict, absentRefusal}
+use Rattle.rules.specs.Refusals.{refusal, recordsVerdict, circleRefusal, absentRefusal}
 use Rattle.rules.proofs.Enumerate.{figures}
 use Rattle.rules.proofs.Enumerate.Paths.{pathSum, sumFrom}
 use Rattle.rules.proofs.Enumerate.Winner.{notAfter, wins, winner, winnerTo}
@@ -95,7 +96,7 @@ cases =
 
 -- each of them holds of the definitions
 pub starred : AllHold cases
-unfolding sumTo largestTo upTo lowest blank ofKind formWrong rangeWrong tooMany referenceWrong reason mayPreempt barred decided mapFrom related same has takenOut putIn without put touched carried recordsVerdict figures pathSum sumFrom notAfter wins winner winnerTo heaviest
+unfolding sumTo largestTo upTo lowest blank ofKind formWrong rangeWrong tooMany referenceWrong reason mayPreempt barred paired comesBefore reaches decided mapFrom related same has takenOut putIn without put touched carried recordsVerdict figures pathSum sumFrom notAfter wins winner winnerTo heaviest
 starred = all-hold cases tt
 
 -- the reasons that cases 1, 2, 4, 7, 8 and 10 give, and those of the chain of figure 2, whose tasks are at places 0, 1 and 5
@@ -107,7 +108,7 @@ pub reasons-of-cases : (reasonAt (together 617 2588 2588 0) 0 1 ≡ Timing)
     × (reasonAt (asunder 2 (precedence 2 1 ∷ [])) 0 1 ≡ Pair)
     × (reasonAt figure2 0 1 ≡ Response)
     × (reasonAt figure2 1 5 ≡ Transaction)
-unfolding lowest ofKind reason barred reasonAt
+unfolding lowest ofKind reason barred paired comesBefore reaches reasonAt
 reasons-of-cases = (refl, refl, refl, refl, refl, refl, refl, refl)
 
 -- the jitter that means not measured
@@ -134,7 +135,7 @@ casesUnmeasured =
 
 -- each of them holds of the definitions
 pub unmeasured-cases : AllHold casesUnmeasured
-unfolding sumTo largestTo upTo lowest blank ofKind formWrong rangeWrong tooMany referenceWrong reason mayPreempt barred decided mapFrom related same has takenOut putIn without put touched carried recordsVerdict figures pathSum sumFrom notAfter wins winner winnerTo heaviest
+unfolding sumTo largestTo upTo lowest blank ofKind formWrong rangeWrong tooMany referenceWrong reason mayPreempt barred paired comesBefore reaches decided mapFrom related same has takenOut putIn without put touched carried recordsVerdict figures pathSum sumFrom notAfter wins winner winnerTo heaviest
 unmeasured-cases = all-hold casesUnmeasured tt
 
 -- the jitter is read as the period, and after the patch as the new one; with the period written in its place the task is
@@ -183,7 +184,7 @@ casesThreshold =
 
 -- each of them holds of the definitions
 pub threshold-cases : AllHold casesThreshold
-unfolding sumTo largestTo upTo lowest blank ofKind formWrong rangeWrong tooMany referenceWrong reason mayPreempt barred decided mapFrom related same has takenOut putIn without put touched carried recordsVerdict figures pathSum sumFrom notAfter wins winner winnerTo heaviest
+unfolding sumTo largestTo upTo lowest blank ofKind formWrong rangeWrong tooMany referenceWrong reason mayPreempt barred paired comesBefore reaches decided mapFrom related same has takenOut putIn without put touched carried recordsVerdict figures pathSum sumFrom notAfter wins winner winnerTo heaviest
 threshold-cases = all-hold casesThreshold tt
 
 -- figure 2 with this in byte k of a record
@@ -199,7 +200,7 @@ pub threshold-read : (taskAt (reluctant 0) 0 .threshold ≡ 1)
     × (reasonAt (reluctant 2) 0 1 ≡ Priority)
     × (absentRefusal figure2 (task12 2 ∷ []) ≡ refusal 9 0)
     × (absentRefusal (figure2Threshold 2) (task12 0 ∷ []) ≡ refusal 9 0)
-unfolding lowest ofKind reason barred reasonAt related same has takenOut
+unfolding lowest ofKind reason barred paired comesBefore reaches reasonAt related same has takenOut
 threshold-read = (refl, refl, refl, refl, refl, refl, refl)
 
 -- what is refused: of task 13, of priority 4, the thresholds 1 and 3, and byte 23; of a transaction and of a pair byte 22
@@ -211,3 +212,50 @@ pub threshold-refused : (recordsVerdict Table (figure2Byte 4 22 1) ≡ refusal 6
     × (recordsVerdict Table (figure2 ++ (set (oneWay 11 12) 22 4 ∷ [])) ≡ refusal 4 8)
 unfolding sumTo lowest blank ofKind formWrong rangeWrong tooMany recordsVerdict
 threshold-refused = (refl, refl, refl, refl, refl, refl)
+
+-- tasks 1, 2 and 3, of three transactions, where each has a higher priority than the one before it; and the pairs
+abbrev pub threeApart : List (List ℕ) → List (List ℕ)
+threeApart pairs =
+    transaction 1 10000
+    ∷ transaction 2 10000
+    ∷ transaction 3 10000
+    ∷ task 1 1 0 1 0 0 1
+    ∷ task 2 2 0 2 0 0 1
+    ∷ task 3 3 0 3 0 0 1
+    ∷ pairs
+
+-- precedence through a third task. Tasks 1 and 3 are barred where a path of precedences leads from one to the other, either way;
+-- not where both come before, or after, task 2, and not over a one-way pair. Then figure 2 where 11 comes before 12 and 12 before
+-- 23, so that 11 and 23 do not nest; and 23 put behind 12 by a patch, which touches 11 too
+abbrev pub casesPrecedence : List Case
+casesPrecedence =
+    preempted (threeApart (precedence 1 2 ∷ precedence 2 3 ∷ [])) 0 2 false
+    ∷ preempted (threeApart (precedence 2 1 ∷ precedence 3 2 ∷ [])) 0 2 false
+    ∷ preempted (threeApart (precedence 1 2 ∷ precedence 3 2 ∷ [])) 0 2 true
+    ∷ preempted (threeApart (precedence 2 1 ∷ precedence 2 3 ∷ [])) 0 2 true
+    ∷ preempted (threeApart (precedence 1 2 ∷ oneWay 2 3 ∷ [])) 0 2 true
+    ∷ preempted (threeApart (oneWay 1 2 ∷ precedence 2 3 ∷ [])) 0 2 true
+    ∷ shown (figure2 ++ (precedence 11 12 ∷ precedence 12 23 ∷ [])) (shownAs 6 (11 ∷ 21 ∷ []) 8 8 10)
+    ∷ patched (figure2 ++ (precedence 11 12 ∷ [])) (puts (precedence 12 23) ∷ []) (shownAs 6 (11 ∷ 21 ∷ []) 8 8 10) 3
+    ∷ []
+
+-- each of them holds of the definitions
+pub precedence-cases : AllHold casesPrecedence
+unfolding sumTo largestTo upTo lowest blank ofKind formWrong rangeWrong tooMany referenceWrong reason mayPreempt barred paired comesBefore reaches decided mapFrom related same has takenOut putIn without put touched carried recordsVerdict figures pathSum sumFrom notAfter wins winner winnerTo heaviest
+precedence-cases = all-hold casesPrecedence tt
+
+-- the reason that a path gives, either way, where priority does not speak before it
+pub precedence-reasons : (reasonAt (threeApart (precedence 1 2 ∷ precedence 2 3 ∷ [])) 0 2 ≡ Pair)
+    × (reasonAt (threeApart (precedence 2 1 ∷ precedence 3 2 ∷ [])) 0 2 ≡ Pair)
+    × (reasonAt (threeApart (precedence 1 2 ∷ precedence 2 3 ∷ [])) 2 0 ≡ Priority)
+    × (reasonAt (threeApart (precedence 1 2 ∷ precedence 3 2 ∷ [])) 0 2 ≡ Transaction)
+unfolding lowest ofKind reason barred paired comesBefore reaches reasonAt
+precedence-reasons = (refl, refl, refl, refl)
+
+-- what is refused: a circle of two, and of three with task 11 leading into it, at the lowest id of the circle; a one-way pair closes
+-- none
+pub precedence-refused : (circleRefusal (asunder 2 (precedence 1 2 ∷ precedence 2 1 ∷ [])) ≡ refusal 14 1)
+    × (circleRefusal (asunder 2 (oneWay 1 2 ∷ precedence 2 1 ∷ [])) ≡ refusal 0 0)
+    × (circleRefusal (figure2 ++ (precedence 11 13 ∷ precedence 12 23 ∷ precedence 13 12 ∷ precedence 23 13 ∷ [])) ≡ refusal 14 12)
+unfolding lowest ofKind paired comesBefore reaches
+precedence-refused = (refl, refl, refl)

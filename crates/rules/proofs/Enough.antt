@@ -17,7 +17,7 @@ use Rattle.rules.specs.Refusals.{accepted, tableVerdict}
 use Rattle.rules.specs.Calls.{over, mapVerdict, mapAfter, boundsFound, BoundCall}
 use Rattle.rules.specs.Runs.{Step, leftAfter}
 use Rattle.rules.proofs.Maps.{cell-of-map}
-use Rattle.rules.proofs.Refusals.{accepted-parts}
+use Rattle.rules.proofs.Refusals.{accepted-parts, linked-references}
 use Rattle.rules.proofs.Table.Listed.{listed-of}
 use Rattle.rules.proofs.Patch.Valid.{valid-of, valid-few-tasks}
 use Rattle.rules.proofs.Patch.TrueMap.{true-cell}
@@ -55,7 +55,7 @@ enough-over image rows f table covers right q run keeps =
 
     most : (m : ℕ) → onStack rs m run ≤ chainBound rs f
     most m =
-        let named = listed-of rs (accepted-parts image table .1) in
+        let named = listed-of rs (linked-references rs (accepted-parts image table .1)) in
         let chain = lemma-3 q rs named run keeps rows covers (stacked m run) (stacked-one m run) (stacked-nested m run (keeps .one-by-one)) in
         omega (arith, stacked-weight rs m run, right .chain .most (places (stacked m run)) chain)
 

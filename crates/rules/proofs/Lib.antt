@@ -10,6 +10,8 @@ pub mod Blocks
 pub mod Refusals
 pub mod Image
 pub mod Table
+pub mod Before
+pub mod Circles
 pub mod Patch
 pub mod Unmeasured
 pub mod Thresholds

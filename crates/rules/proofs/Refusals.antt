@@ -10,7 +10,7 @@ use Rattle.rules.specs.declared.Form.the-variants.{Table, Patch}
 use Rattle.rules.specs.declared.Verdict.{Verdict}
 use Rattle.rules.specs.Numbers.{lowest, some}
 use Rattle.rules.specs.Blocks.{records}
-use Rattle.rules.specs.Refusals.{accepted, fine, refusal, refuseIf, refuseAt, orElse, numbered, frameVerdict, recordsVerdict, referenceRefusal, tableVerdict}
+use Rattle.rules.specs.Refusals.{accepted, fine, refusal, refuseIf, refuseAt, orElse, numbered, frameVerdict, recordsVerdict, referenceRefusal, circleRefusal, linkRefusal, tableVerdict}
 use Rattle.rules.proofs.Numbers.{either, lowest-none, some-fails, some-false}
 
 -- no refusal has the number 0
@@ -35,14 +35,21 @@ accepted-second v w h = rw (accepted-first v w h) at h
 pub accepted-both : (v w : Verdict) → accepted (orElse v w) ≡ true → (accepted v ≡ true) × (accepted w ≡ true)
 accepted-both v w h = (accepted-first v w h, accepted-second v w h)
 
--- so an accepted table has records in which neither refusals 4 to 7 nor refusal 8 find a fault
+-- so an accepted table has records in which neither refusals 4 to 7 nor refusals 8 and 14 find a fault
 pub accepted-parts : (image : List ℕ) → accepted (tableVerdict image) ≡ true
-    → (accepted (recordsVerdict Table (records image)) ≡ true) × (accepted (referenceRefusal (records image)) ≡ true)
+    → (accepted (recordsVerdict Table (records image)) ≡ true) × (accepted (linkRefusal (records image)) ≡ true)
 unfolding tableVerdict
 accepted-parts image h =
     let rs : List (List ℕ) = records image in
-    accepted-both (recordsVerdict Table rs) (referenceRefusal rs)
-    (accepted-second (frameVerdict Table image) (orElse (recordsVerdict Table rs) (referenceRefusal rs)) h)
+    accepted-both (recordsVerdict Table rs) (linkRefusal rs)
+    (accepted-second (frameVerdict Table image) (orElse (recordsVerdict Table rs) (linkRefusal rs)) h)
+
+-- of which 8 finds none, and 14 none
+pub linked-references : (rs : List (List ℕ)) → accepted (linkRefusal rs) ≡ true → accepted (referenceRefusal rs) ≡ true
+linked-references rs h = accepted-first (referenceRefusal rs) (circleRefusal rs) h
+
+pub linked-circles : (rs : List (List ℕ)) → accepted (linkRefusal rs) ≡ true → accepted (circleRefusal rs) ≡ true
+linked-circles rs h = accepted-second (referenceRefusal rs) (circleRefusal rs) h
 
 -- and only there, as one equation
 pub accepted-orElse : (v w : Verdict) → accepted (orElse v w) ≡ (accepted v && accepted w)

@@ -52,14 +52,14 @@ writtenLength form flat room = cond (writable form flat room) (512 * blocksOf fl
 abbrev pub writtenRoom : Form → List ℕ → List ℕ → List ℕ
 writtenRoom form flat room = cond (writable form flat room) (over (imageOf form (cut flat)) room) room
 
--- map calls answer 1-8, 11
+-- map calls answer 1-8, 14, 11
 unfoldable pub mapVerdict : List ℕ → List ℕ → Verdict
 mapVerdict image rows = orElse (tableVerdict image) (shortRefusal (ltb (length rows) 64))
 
 unfoldable pub mapAfter : List ℕ → List ℕ → List ℕ
 mapAfter image rows = after (mapVerdict image rows) (mapOf (records image)) rows
 
--- bound calls answer 1-8, 11
+-- bound calls answer 1-8, 14, 11
 unfoldable pub boundVerdict : List ℕ → List ℕ → List ℕ → Verdict
 boundVerdict image rows ids =
     orElse (tableVerdict image) (shortRefusal (ltb (length rows) 64 || ltb (length ids) 64))
@@ -103,7 +103,7 @@ pub record BoundCall (image rows ids : List ℕ) (answer : Bounds) (later : List
   pub worked :
       accepted (boundVerdict image rows ids) ≡ true → BoundsWorkedOut (records image) rows ids answer later
 
--- reason calls answer 1-8, then 15 where one of the two ids is not listed
+-- reason calls answer 1-8, 14, then 15 where one of the two ids is not listed
 unfoldable pub reasonVerdict : List ℕ → ℕ → ℕ → Verdict
 reasonVerdict image low high =
     orElse (tableVerdict image)
@@ -124,7 +124,7 @@ reasonAnswer image low high =
 abbrev pub outcomeLength : List ℕ → List ℕ → ℕ
 outcomeLength base patch = 512 * blocksFor (length (outcome (records base) (records patch)))
 
--- a patch call answers 1-8 for the base, then 21-27, 9, 10, 11
+-- a patch call answers 1-8 and 14 for the base, then 21-27, 9, 10, 11
 unfoldable pub patchCallVerdict : List ℕ → List ℕ → List ℕ → List ℕ → List ℕ → Verdict
 patchCallVerdict base patch rows room newRows =
     orElse (tableVerdict base)

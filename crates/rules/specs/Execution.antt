@@ -44,12 +44,12 @@ pub record UnfinishedAt (v w : Instance) : Type 0 where
   pub earlier : v .started < w .started
   pub unfinished : w .started < v .finished
 
--- then v is preempted by w, and this is asked of v, an instance of task i, and w, one of task j; forbidden says that a pair
--- forbids it
+-- then v is preempted by w, and this is asked of v, an instance of task i, and w, one of task j; forbidden says that the
+-- two are barred
 pub record PreemptedBy (forbidden : Bool) (i j : Task) (v w : Instance) : Type 0 where
   -- the threshold of i is below the priority of j
   pub yielding : yields i j ≡ true
-  -- no pair forbids it
+  -- no one-way pair forbids it, and neither of the two tasks comes before the other
   pub allowed : forbidden ≡ false
   -- v started before w was released, as an early-blocking protocol has it: nothing that w preempts starts while w waits
   pub unblocked : v .started < w .released

@@ -5,8 +5,8 @@ use mathlib.Core.Bool.{Bool, true, false, cond, _&&_, _||_}
 use lib.ListN.{length, getD, set}
 use lib.Dec.{leb, eqb}
 use Rattle.rules.specs.Numbers.{countTo, some}
-use Rattle.rules.specs.Records.{kindOf, numberOf, secondOf, wayOf, key, tasks, taskCount, taskAt, placeOf}
-use Rattle.rules.specs.Preempt.{cell, decided, mapFrom}
+use Rattle.rules.specs.Records.{kindOf, numberOf, secondOf, sortOf, wayOf, key, tasks, taskCount, taskAt, placeOf}
+use Rattle.rules.specs.Preempt.{cell, beside, decided, mapFrom}
 
 -- the same bytes
 unfoldable pub same : List ℕ → List ℕ → Bool
@@ -61,11 +61,20 @@ concerns p id transaction =
     || ((eqb (kindOf p) 3 && (eqb (numberOf p) id || eqb (secondOf p) id))
     || (eqb (kindOf p) 1 && eqb (numberOf p) transaction))
 
--- the task at place i of the outcome is touched
+-- the patch record is a precedence pair, and in a table the task with this id comes before or after one of its two
+abbrev pub alongside : List (List ℕ) → List ℕ → ℕ → Bool
+alongside rs p id = (eqb (kindOf p) 3 && eqb (sortOf p) 1) && (beside rs id (numberOf p) || beside rs id (secondOf p))
+
+-- the task at place i of the outcome is touched: a record of the patch concerns it, or is a precedence pair, and the task comes
+-- before or after one of its two in the base or in the outcome
 unfoldable pub touched : List (List ℕ) → List (List ℕ) → ℕ → Bool
 touched base patch i =
     let task = taskAt (outcome base patch) i in
-    some (λ k. concerns (getD patch k []) (task .id) (task .transaction)) (length patch)
+    some
+    (λ k.
+    let p = getD patch k [] in
+    concerns p (task .id) (task .transaction) || (alongside base p (task .id) || alongside (outcome base patch) p (task .id)))
+    (length patch)
 
 abbrev pub touchedCount : List (List ℕ) → List (List ℕ) → ℕ
 touchedCount base patch = countTo (touched base patch) (taskCount (outcome base patch))

@@ -8,6 +8,7 @@ use Rattle.rules.specs.declared.Reason.{Reason}
 use Rattle.rules.specs.declared.Reason.the-variants.{Transaction, Jitter, Response, Priority, Pair, Timing}
 use Rattle.rules.specs.declared.Task.{Task}
 use Rattle.rules.specs.Numbers.{upTo, sumTo, some}
+use Rattle.rules.specs.Reach.{Reaches, reaches}
 use Rattle.rules.specs.Reasons.{told}
 use Rattle.rules.specs.Records.{numberOf, secondOf, sortOf, pairs, taskCount, taskAt, periodAt}
 
@@ -36,7 +37,7 @@ abbrev pub yields : Task → Task → Bool
 yields i j = ltb (i .threshold) (j .priority)
 
 -- (8): the first condition that fails, of priority, pair and timing, or else why task i may be preempted by task j; t is
--- the period of i's transaction and barred says that a pair forbids it
+-- the period of i's transaction and barred says that a one-way pair forbids it or one of the two comes before the other
 unfoldable pub reason : ℕ → Bool → Task → Task → Reason
 reason t barred i j =
     cond (not (yields i j)) Priority
@@ -51,13 +52,27 @@ mayPreempt t barred i j = told (reason t barred i j) .set
 abbrev pub names : List ℕ → ℕ → ℕ → Bool
 names r a b = eqb (numberOf r) a && eqb (secondOf r) b
 
--- a one-way pair (a, b), or a precedence pair naming both in either order
-abbrev pub bars : List ℕ → ℕ → ℕ → Bool
-bars r a b = names r a b || (eqb (sortOf r) 1 && names r b a)
+-- some pair of this sort names first a, then b
+unfoldable pub paired : ℕ → List (List ℕ) → ℕ → ℕ → Bool
+paired sort rs a b =
+    some (λ k. eqb (sortOf (getD (pairs rs) k [])) sort && names (getD (pairs rs) k []) a b) (length (pairs rs))
 
--- some pair forbids that the task with id a is preempted by the one with id b
+-- the task with id a comes before the one with id b: a path of precedence pairs leads from a to b
+abbrev pub ComesBefore : List (List ℕ) → ℕ → ℕ → Type 0
+ComesBefore rs = Reaches (paired 1 rs)
+
+-- the same, worked out over the ids of the table's tasks
+unfoldable pub comesBefore : List (List ℕ) → ℕ → ℕ → Bool
+comesBefore rs = reaches (paired 1 rs) (λ k. taskAt rs k .id) (taskCount rs)
+
+-- one of the two comes before the other
+abbrev pub beside : List (List ℕ) → ℕ → ℕ → Bool
+beside rs a b = comesBefore rs a b || comesBefore rs b a
+
+-- the task with id a may not be preempted by the one with id b: a one-way pair forbids it, or one of the two comes before the
+-- other
 unfoldable pub barred : List (List ℕ) → ℕ → ℕ → Bool
-barred rs a b = some (λ k. bars (getD (pairs rs) k []) a b) (length (pairs rs))
+barred rs a b = paired 0 rs a b || beside rs a b
 
 -- why the task at place i may be preempted by the one at place j, or why not
 unfoldable pub reasonAt : List (List ℕ) → ℕ → ℕ → Reason

@@ -9,7 +9,8 @@ use Rattle.rules.specs.declared.Form.the-variants.{Table, Patch}
 use Rattle.rules.specs.declared.Verdict.{Verdict}
 use Rattle.rules.specs.Numbers.{lowest, some}
 use Rattle.rules.specs.Blocks.{blockCount, blockAt, lengthWrong, checkWrong, headerWrong, records}
-use Rattle.rules.specs.Records.{formWrong, imageKey, rangeWrong, tooMany, referenceWrong, wayOf}
+use Rattle.rules.specs.Records.{formWrong, imageKey, rangeWrong, tooMany, referenceWrong, wayOf, taskCount, taskAt}
+use Rattle.rules.specs.Preempt.{comesBefore}
 use Rattle.rules.specs.Patches.{has, outcome}
 
 abbrev pub fine : Verdict
@@ -76,6 +77,22 @@ countRefusal form rs =
 abbrev pub referenceRefusal : List (List ℕ) → Verdict
 referenceRefusal rs = refuseAt 8 (λ k. referenceWrong rs (getD rs k [])) (length rs)
 
+-- the task at place i comes before itself
+abbrev pub circles : List (List ℕ) → ℕ → Bool
+circles rs i = comesBefore rs (taskAt rs i .id) (taskAt rs i .id)
+
+-- the lowest id of such a task
+abbrev pub firstCircle : List (List ℕ) → ℕ
+firstCircle rs = taskAt rs (lowest (circles rs) (taskCount rs)) .id
+
+-- 14: a task comes before itself, place the lowest id of such a task; tables only
+abbrev pub circleRefusal : List (List ℕ) → Verdict
+circleRefusal rs = refuseIf 14 (firstCircle rs) (some (circles rs) (taskCount rs))
+
+-- what a table's records say of each other: 8, then 14
+abbrev pub linkRefusal : List (List ℕ) → Verdict
+linkRefusal rs = orElse (referenceRefusal rs) (circleRefusal rs)
+
 -- 1 to 3, of the image's blocks
 unfoldable pub frameVerdict : Form → List ℕ → Verdict
 frameVerdict form image = orElse (lengthRefusal form image) (orElse (checkRefusal form image) (headerRefusal form image))
@@ -85,10 +102,11 @@ unfoldable pub recordsVerdict : Form → List (List ℕ) → Verdict
 recordsVerdict form rs =
     orElse (formRefusal form rs) (orElse (orderRefusal form rs) (orElse (rangeRefusal form rs) (countRefusal form rs)))
 
--- 1 to 8, of a table
+-- 1 to 8 and 14, of a table
 unfoldable pub tableVerdict : List ℕ → Verdict
 tableVerdict image =
-    orElse (frameVerdict Table image) (orElse (recordsVerdict Table (records image)) (referenceRefusal (records image)))
+    orElse (frameVerdict Table image)
+    (orElse (recordsVerdict Table (records image)) (linkRefusal (records image)))
 
 -- 21 to 27, of a patch
 unfoldable pub patchVerdict : List ℕ → Verdict
@@ -104,10 +122,10 @@ abbrev pub absentRefusal : List (List ℕ) → List (List ℕ) → Verdict
 absentRefusal base patch =
     refuseAt 9 (λ k. eqb (wayOf (getD patch k [])) 0 && not (has base (getD patch k []))) (length patch)
 
--- the outcome breaks order, 7 or 8
+-- the outcome breaks order, 7, 8 or 14
 abbrev pub broken : List (List ℕ) → Bool
 broken rs =
-    not (accepted (orElse (orderRefusal Table rs) (orElse (countRefusal Table rs) (referenceRefusal rs))))
+    not (accepted (orElse (orderRefusal Table rs) (orElse (countRefusal Table rs) (linkRefusal rs))))
 
 -- 10: the outcome is no table, place 0
 abbrev pub outcomeRefusal : List (List ℕ) → List (List ℕ) → Verdict

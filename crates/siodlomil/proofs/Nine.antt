@@ -12,9 +12,9 @@ use Rattle.rules.specs.declared.Form.the-variants.{Table, Patch}
 use Rattle.rules.specs.declared.Verdict.{Verdict}
 use Rattle.rules.specs.Numbers.{lowest, some}
 use Rattle.rules.specs.Blocks.{blockCount, blockAt, lengthWrong, checkWrong, headerWrong, records, recordStart}
-use Rattle.rules.specs.Records.{formWrong, rangeWrong, tooMany, referenceWrong, wayOf}
+use Rattle.rules.specs.Records.{formWrong, rangeWrong, tooMany, referenceWrong, wayOf, taskCount}
 use Rattle.rules.specs.Patches.{has}
-use Rattle.rules.specs.Refusals.{accepted, refuseIf, refuseAt, orElse, numbered, orderWrong, lengthRefusal, checkRefusal, headerRefusal, formRefusal, orderRefusal, rangeRefusal, countRefusal, referenceRefusal, frameVerdict, recordsVerdict, tableVerdict, patchVerdict, absentRefusal}
+use Rattle.rules.specs.Refusals.{accepted, refuseIf, refuseAt, orElse, numbered, orderWrong, lengthRefusal, checkRefusal, headerRefusal, formRefusal, orderRefusal, rangeRefusal, countRefusal, referenceRefusal, circles, firstCircle, circleRefusal, linkRefusal, frameVerdict, recordsVerdict, tableVerdict, patchVerdict, absentRefusal}
 use Rattle.rules.proofs.Numbers.{either, never}
 use Rattle.rules.proofs.Image.Frame.{frame-accepted, frame-of, record-fits}
 use Rattle.patch.proofs.Accepted.{as-many}
@@ -70,8 +70,10 @@ other-table : (image : List ℕ) → NotNine (tableVerdict image)
 unfolding tableVerdict
 other-table image =
     other-both (frameVerdict Table image) _ (other-frame Table image)
-    (other-both (recordsVerdict Table (records image)) (referenceRefusal (records image)) (other-records Table (records image))
-    (other-at 8 (λ k. referenceWrong (records image) (getD (records image) k [])) (length (records image)) refl))
+    (other-both (recordsVerdict Table (records image)) (linkRefusal (records image)) (other-records Table (records image))
+    (other-both (referenceRefusal (records image)) (circleRefusal (records image))
+    (other-at 8 (λ k. referenceWrong (records image) (getD (records image) k [])) (length (records image)) refl)
+    (other-number 14 (firstCircle (records image)) (some (circles (records image)) (taskCount (records image))) refl)))
 
 other-patch : (image : List ℕ) → NotNine (patchVerdict image)
 unfolding patchVerdict

@@ -1,2 +1,5 @@
 pub mod Counts
 pub mod Places
+pub mod Pairing
+pub mod Closed
+pub mod Judging

@@ -1,2 +1,4 @@
 pub mod Tally
 pub mod Numbers
+pub mod Precedence
+pub mod Judged

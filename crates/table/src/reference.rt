@@ -10,8 +10,6 @@ ghost use Rattle.rules.specs.Refusals.{accepted, recordsVerdict};
 ghost use Rattle.rules.specs.declared.Form.the-variants.{Table};
 ghost use Rattle.image.specs.Held.{HoldsRecords};
 ghost use Rattle.table.specs.Numbers.{Directory};
-use crate::count::count_kind;
-use crate::place::numbers_from;
 use crate::place::place_of;
 use image::bytes::byte_at;
 use image::bytes::four_bytes;
@@ -69,28 +67,26 @@ fn is_reference_wrong(
     false
 }
 
-// The first record that refers to something not listed, or the number of records. Transactions and tasks are listed once,
-// and each record then looks its references up by halving.
-pub fn first_wrong_reference(image: &[u8]) -> usize
+// The first record that refers to something not listed, or the number of records. The transactions have these numbers and the
+// tasks these ids, in which each record looks its references up by halving.
+pub fn first_wrong_reference(
+    image: &[u8],
+    numbers: &[u32],
+    transactions: usize,
+    ids: &[u32],
+    tasks: usize,
+) -> usize
     requires { ⌜ accepted (recordsVerdict Table (records (now image))) ≡ true ⌝ }
+    requires { ⌜ Directory (Records·transactions (records (now image))) (now numbers) transactions ⌝ }
+    requires { ⌜ Directory (Records·tasks (records (now image))) (now ids) tasks ⌝ }
     requires { ⌜ HoldsRecords (now image) ⌝ }
     ensures { λ r. ⌜ r ≡ lowest (λ k. referenceWrong (records (now (image .entry))) (getD (records (now (image .entry))) k [])) (recordCount (now (image .entry))) ⌝ }
 {
-    let transactions = count_kind(image, 1);
-    let tasks = count_kind(image, 2);
-    let numbers = numbers_from(image, 0, transactions);
-    let ids = numbers_from(image, transactions, tasks);
     let count = record_count(image);
     let mut k: usize = 0;
     while k < count {
-        if is_reference_wrong(
-            image,
-            &numbers,
-            transactions,
-            &ids,
-            tasks,
-            record_at(image, k),
-        ) {
+        let fields = record_at(image, k);
+        if is_reference_wrong(image, numbers, transactions, ids, tasks, fields) {
             return k;
         }
         k += 1;

@@ -5,6 +5,7 @@ use crate::bytes::put_u32;
 use crate::generate::frame_damage::{
     damage_check, damage_frame, damage_length, raise_check_by_modulus,
 };
+use crate::generate::precedences::table_with_circle;
 use crate::generate::random::Random;
 use crate::generate::record_damage::damage_records;
 use crate::generate::tables::{
@@ -12,20 +13,33 @@ use crate::generate::tables::{
 };
 use crate::record_faults::MOST_PERIOD;
 use crate::records::{patch_records, Record, JITTER_AT};
+use crate::table::Table;
 
 /// A table image that is most likely refused.
 pub fn damaged_table(random: &mut Random) -> Vec<u8> {
     damaged_image(random, Form::Table)
 }
 
-/// An image of this form that is most likely refused.
+/// An image of this form that is most likely refused, every eighth table for a circle.
 pub fn damaged_image(random: &mut Random, form: Form) -> Vec<u8> {
+    if form == Form::Table && random.one_in(8) {
+        return image_of(form, &records_with_circle(random));
+    }
     let record_damages = match random.rank(20) {
         0..=9 => 1,
         10 | 11 => 2,
         _ => return with_other_damage(random, form),
     };
     image_of(form, &damaged_records(random, form, record_damages))
+}
+
+/// The records of a table with a circle, in every fourth one with other damage too.
+fn records_with_circle(random: &mut Random) -> Vec<Record> {
+    let mut records = table_with_circle(random).records();
+    if random.one_in(4) {
+        damage_records(random, Form::Table, &mut records);
+    }
+    records
 }
 
 /// An image with its frame, checks, length or single bytes damaged.
@@ -80,8 +94,20 @@ fn records_to_damage(random: &mut Random, form: Form) -> Vec<Record> {
 pub fn sound_records(random: &mut Random, form: Form) -> Vec<Record> {
     match form {
         Form::Table => any_table(random).records(),
-        Form::Patch => patch_records(&any_table(random).records(), &any_table(random).records()),
+        Form::Patch => sound_patch(random),
     }
+}
+
+/// The records of a sound patch; in every sixth one those that it puts in have a circle, and in every other
+/// sixth those that it takes out.
+fn sound_patch(random: &mut Random) -> Vec<Record> {
+    let draws: [fn(&mut Random) -> Table; 2] = match random.rank(6) {
+        0 => [any_table, table_with_circle],
+        1 => [table_with_circle, any_table],
+        _ => [any_table, any_table],
+    };
+    let [taken_out, put_in] = draws.map(|draw| draw(random).records());
+    patch_records(&taken_out, &put_in)
 }
 
 fn flip_a_byte(random: &mut Random, image: &mut [u8]) {

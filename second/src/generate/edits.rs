@@ -1,12 +1,17 @@
 //! Changes to a table after which it still keeps every rule.
 
 use crate::generate::misfits::{unused_number, unused_record};
+use crate::generate::precedences::{
+    change_one_way, put_in_path, put_in_precedence, take_out_precedence, turn_precedence,
+};
 use crate::generate::random::Random;
 use crate::generate::task_values::draw_lone_task;
 use crate::generate::thresholds::draw_threshold;
+use crate::precedence::Paths;
 use crate::record_faults::MOST_PERIOD;
 use crate::records::{Pair, PairSort, Task, Transaction, PAIR, TASK, TRANSACTION};
 use crate::table::Table;
+use crate::verdict::MOST_PAIRS;
 
 /// A change to a table, which may leave its records out of order.
 type Edit = fn(&mut Random, &mut Table);
@@ -48,11 +53,33 @@ pub fn with_other_threshold(random: &mut Random, table: &Table) -> Table {
     after(edit, random, table)
 }
 
-/// The table after this change, in table order.
+/// The table with precedence pairs put in, taken out, turned round or exchanged for one-way pairs, or with a
+/// one-way pair put in or taken out, and nothing else.
+pub fn with_other_pairs(random: &mut Random, table: &Table) -> Table {
+    let edit = random.pick::<Edit>(&[
+        put_in_precedence,
+        put_in_precedence,
+        put_in_path,
+        take_out_precedence,
+        take_out_precedence,
+        turn_precedence,
+        turn_precedence,
+        turn_precedence,
+        change_pair,
+        change_pair,
+        change_one_way,
+    ]);
+    after(edit, random, table)
+}
+
+/// The table after this change, in table order, or as it was where the change closes a circle.
 fn after(edit: Edit, random: &mut Random, table: &Table) -> Table {
     let mut new = table.clone();
     edit(random, &mut new);
-    Table::read(&new.records())
+    match Paths::along(&new.pairs).circular().next() {
+        None => Table::read(&new.records()),
+        Some(_) => table.clone(),
+    }
 }
 
 fn put_in_task(random: &mut Random, table: &mut Table) {
@@ -172,7 +199,7 @@ fn change_period(random: &mut Random, table: &mut Table) {
 }
 
 fn put_in_pair(random: &mut Random, table: &mut Table) {
-    if table.tasks.len() >= 2 && table.pairs.len() < 256 {
+    if table.tasks.len() >= 2 && table.pairs.len() < MOST_PAIRS {
         let pair = Pair::read(&unused_record(random, &table.records(), PAIR));
         if table.place_of(pair.first).is_some() && table.place_of(pair.second).is_some() {
             table.pairs.push(pair);

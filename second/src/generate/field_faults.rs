@@ -54,7 +54,7 @@ const THRESHOLD_FAULTS: [(u8, Fault); 2] = [
 
 /// Puts one field of one record out of its range, if there is a record that has the field.
 pub fn break_a_range(random: &mut Random, records: &mut [Record]) {
-    let (kind, fault) = match random.one_in(3) {
+    let (kind, fault) = match random.one_in(2) {
         true => random.pick(&THRESHOLD_FAULTS),
         false => random.pick(&FAULTS),
     };

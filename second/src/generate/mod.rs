@@ -11,6 +11,7 @@ mod maps;
 mod misfits;
 mod patch_cases;
 mod patches;
+pub mod precedences;
 pub mod random;
 mod reason_cases;
 mod record_damage;

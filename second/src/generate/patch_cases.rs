@@ -3,7 +3,8 @@
 use crate::blocks::{image_of, records_in, Form, BLOCK_BYTES};
 use crate::generate::damaged_images::{damaged_image, damaged_table};
 use crate::generate::maps::true_map_and_more;
-use crate::generate::patches::{absent_record, breaking_patch, fitting_patch};
+use crate::generate::patches::{absent_record, breaking_patch, fitting_patch, precedence_patch};
+use crate::generate::precedences::table_of_paths;
 use crate::generate::random::Random;
 use crate::generate::rooms::{enough_rows, rows, too_few_rows};
 use crate::generate::tables::any_table;
@@ -22,26 +23,32 @@ pub struct PatchRun {
     base: Vec<u8>,
     map: Vec<u64>,
     left: usize,
+    /// How many in ten of the patches that the base accepts are of precedence pairs.
+    precedence_patches: usize,
 }
 
 impl PatchRun {
     /// A run that starts from a new table with its true map, mostly.
     pub fn start(random: &mut Random) -> PatchRun {
-        let table = any_table(random);
+        let table = match random.one_in(4) {
+            true => table_of_paths(random),
+            false => any_table(random),
+        };
         let map = match random.rank(4) {
             0 | 1 => true_map(&table).to_vec(),
             2 => true_map_and_more(random, &table),
             _ => rows(random, MAP_ROWS),
         };
-        PatchRun::from(&table, map)
+        PatchRun::from(&table, map, 0)
     }
 
-    /// A run that starts from this table and this map.
-    pub fn from(table: &Table, map: Vec<u64>) -> PatchRun {
+    /// A run that starts from this table and this map, with so many patches of precedence pairs in ten.
+    pub fn from(table: &Table, map: Vec<u64>, precedence_patches: usize) -> PatchRun {
         PatchRun {
             base: image_of(Form::Table, &table.records()),
             map,
             left: RUN_LENGTH,
+            precedence_patches,
         }
     }
 
@@ -86,6 +93,9 @@ impl PatchRun {
         let patch = match sort {
             0 | 1 => absent_record(random, &base),
             2..=4 => breaking_patch(random, &base),
+            _ if random.rank(10) < self.precedence_patches => {
+                precedence_patch(random, &Table::read(&base))
+            }
             _ => fitting_patch(random, &Table::read(&base)),
         };
         let case = self.roomy(random, &patch);

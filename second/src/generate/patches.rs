@@ -1,26 +1,53 @@
 //! Patches that fit a base, and patches that fail on it.
 
-use crate::generate::edits::{edited, with_other_period, with_other_threshold};
+use crate::generate::edits::{edited, with_other_pairs, with_other_period, with_other_threshold};
 use crate::generate::misfits::{misfit_a_record, one_too_many, unused_record};
+use crate::generate::precedences::close_a_circle;
 use crate::generate::random::Random;
 use crate::generate::tables::any_table;
 use crate::records::{
-    patch_records, Record, JITTER_AT, PAIR, PAIR_SORT_AT, PERIOD_AT, RESPONSE_AT, STACK_AT,
-    TAKEN_OUT, TASK, TRANSACTION,
+    patch_records, Pair, PairSort, Record, JITTER_AT, PAIR, PAIR_SORT_AT, PERIOD_AT, RESPONSE_AT,
+    STACK_AT, TAKEN_OUT, TASK, TRANSACTION,
 };
 use crate::table::Table;
 
 /// A patch that the base accepts.
 pub fn fitting_patch(random: &mut Random, base: &Table) -> Vec<Record> {
-    let target = match random.rank(22) {
+    let target = match random.rank(26) {
         0 => base.clone(),
         1 => Table::default(),
         2 => any_table(random),
         3..=12 if base.tasks.is_empty() => any_table(random),
         13 | 14 => with_other_period(random, base),
         15 | 16 => with_other_threshold(random, base),
+        17..=21 => return precedence_patch(random, base),
         _ => (0..random.count(1, 4)).fold(base.clone(), |table, _| edited(random, &table)),
     };
+    patch_to(random, base, &target)
+}
+
+/// A patch of pairs alone that the base accepts, mostly of precedence pairs; every tenth one puts one back.
+pub fn precedence_patch(random: &mut Random, base: &Table) -> Vec<Record> {
+    let is_precedence = |pair: &&Pair| pair.sort == PairSort::Precedence;
+    let precedences = base.pairs.iter().filter(is_precedence).map(Pair::record);
+    let precedences: Vec<Record> = precedences.collect();
+    if random.one_in(10) {
+        let put_back = some_of(random, &precedences, 1);
+        return patch_records(&put_back, &put_back);
+    }
+    let target = with_other_pairs(random, base);
+    difference(&base.records(), &target.records(), &[])
+}
+
+/// A patch whose outcome has a circle, where the base has two tasks.
+pub fn circle_patch(random: &mut Random, base: &[Record]) -> Vec<Record> {
+    let mut target = Table::read(base);
+    close_a_circle(random, &mut target);
+    difference(base, &target.records(), &[])
+}
+
+/// The patch from one table to another, in every third case with some records put back unchanged.
+fn patch_to(random: &mut Random, base: &Table, target: &Table) -> Vec<Record> {
     let put_back = match random.one_in(3) {
         true => random.count(1, 3),
         false => 0,
@@ -84,10 +111,11 @@ fn slightly_changed(random: &mut Random, mut record: Record) -> Record {
 
 /// A patch whose outcome is no table.
 pub fn breaking_patch(random: &mut Random, base: &[Record]) -> Vec<Record> {
-    match random.rank(8) {
+    match random.rank(10) {
         0 | 1 => put_in_twice(random, base),
         2 => patch_records(&[], &one_too_many(random, base)),
         3..=5 => lose_reference(random, base),
+        6 | 7 => circle_patch(random, base),
         _ => {
             let mut target = base.to_vec();
             misfit_a_record(random, &mut target);

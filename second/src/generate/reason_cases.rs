@@ -3,23 +3,26 @@
 use crate::blocks::{image_of, Form};
 use crate::generate::damaged_images::damaged_table;
 use crate::generate::misfits::unused_number;
+use crate::generate::precedences::table_of_paths;
 use crate::generate::random::Random;
 use crate::generate::tables::{any_table, table_of_shape, Shape};
 use crate::records::TASK;
 use crate::stream::question::Question;
 use crate::stream::{Call, Case};
 use crate::table::Table;
+use crate::verdict::MOST_PAIRS;
 
 /// The first number past the ids; a cut to 16 bits takes its multiples away.
 const PAST_IDS: u32 = 1 << 16;
 
 /// The reasons of a table, mostly an accepted one, with three to six questions.
 pub fn draw(random: &mut Random) -> Case {
-    let table = match random.one_in(4) {
-        true => any_table(random),
-        false => table_where_times_decide(random),
+    let table = match random.rank(16) {
+        0..=2 => any_table(random),
+        3 | 4 => table_of_paths(random),
+        _ => table_where_times_decide(random),
     };
-    let image = match random.one_in(8) {
+    let image = match random.one_in(7) {
         true => damaged_table(random),
         false => image_of(Form::Table, &table.records()),
     };
@@ -32,12 +35,14 @@ pub fn draw(random: &mut Random) -> Case {
 
 /// A table with few transactions, and sometimes with many pairs.
 fn table_where_times_decide(random: &mut Random) -> Table {
-    let tasks = match random.rank(25) {
+    let tasks = match random.rank(20) {
         0 => 64,
         1..=6 => random.count(10, 30),
         _ => random.count(2, 12),
     };
-    let most_pairs = random.pick(&[0, tasks, tasks * (tasks - 1)]).min(256);
+    let most_pairs = random
+        .pick(&[0, tasks, tasks * (tasks - 1)])
+        .min(MOST_PAIRS);
     let shape = Shape {
         transactions: random.pick(&[1, 1, 2, 3]),
         tasks,

@@ -3,15 +3,19 @@
 use crate::blocks::Form;
 use crate::generate::field_faults::break_a_range;
 use crate::generate::misfits::{misfit_a_record, one_too_many};
+use crate::generate::precedences::close_a_circle;
 use crate::generate::random::Random;
-use crate::records::{Record, KIND_AT, PUT_IN, STACK_AT, TAKEN_OUT, TASK, THRESHOLD_AT, WAY_AT};
+use crate::records::{
+    Pair, Record, KIND_AT, PUT_IN, STACK_AT, TAKEN_OUT, TASK, THRESHOLD_AT, WAY_AT,
+};
+use crate::table::Table;
 
 /// Does one sort of damage to the records, where they leave room for it.
 pub fn damage_records(random: &mut Random, form: Form, records: &mut Vec<Record>) {
     if records.is_empty() {
         return;
     }
-    match random.rank(16) {
+    match random.rank(17) {
         0..=2 => stray_byte(random, records),
         3 => unknown_kind(random, records),
         4 => stray_last_byte(random, records),
@@ -19,6 +23,7 @@ pub fn damage_records(random: &mut Random, form: Form, records: &mut Vec<Record>
         6 => swapped_neighbours(random, records),
         7..=11 => break_a_range(random, records),
         12 => too_many(random, form, records),
+        13 => circle_or_range(random, form, records),
         _ => misfit_or_range(random, form, records),
     }
 }
@@ -95,6 +100,23 @@ fn too_many(random: &mut Random, form: Form, records: &mut Vec<Record>) {
 fn misfit_or_range(random: &mut Random, form: Form, records: &mut [Record]) {
     match form {
         Form::Table => misfit_a_record(random, records),
+        Form::Patch => break_a_range(random, records),
+    }
+}
+
+/// In a table precedence pairs that make a circle; a patch has no such fault.
+fn circle_or_range(random: &mut Random, form: Form, records: &mut Vec<Record>) {
+    match form {
+        Form::Table => {
+            let mut table = Table::read(records);
+            let listed = table.pairs.clone();
+            close_a_circle(random, &mut table);
+            table.pairs.retain(|pair| !listed.contains(pair));
+            let put_in: Vec<Record> = table.pairs.iter().map(Pair::record).collect();
+            records.retain(|record| put_in.iter().all(|new| new.key() != record.key()));
+            records.extend(put_in);
+            records.sort_by_key(Record::order);
+        }
         Form::Patch => break_a_range(random, records),
     }
 }

@@ -2,6 +2,7 @@
 
 use std::collections::{BTreeMap, BTreeSet};
 
+use crate::generate::precedences::{table_of_paths, Order};
 use crate::generate::random::Random;
 use crate::generate::task_values::{draw_period, draw_task, sharpen, Style};
 use crate::generate::thresholds::draw_thresholds;
@@ -16,8 +17,11 @@ pub struct Shape {
     pub pairs: usize,
 }
 
-/// A table of any shape, most of them small.
+/// A table of any shape, most of them small, and every eighth one of paths.
 pub fn any_table(random: &mut Random) -> Table {
+    if random.one_in(8) {
+        return table_of_paths(random);
+    }
     let shape = any_shape(random);
     table_of_shape(random, shape)
 }
@@ -131,18 +135,21 @@ pub fn distinct_numbers(random: &mut Random, count: usize) -> Vec<u16> {
     numbers.into_iter().collect()
 }
 
-/// Up to this many pairs of these tasks, in table order.
+/// Up to this many pairs of these tasks, in table order; the precedence pairs lead along an order of the tasks.
 pub fn draw_pairs(random: &mut Random, ids: &[u16], count: usize) -> Vec<Pair> {
+    let order = Order::draw(random, ids);
     let room = ids.len() * ids.len().saturating_sub(1);
     let mut sorts = BTreeMap::new();
     while sorts.len() < count.min(room) {
-        let (first, second) = (random.pick(ids), random.pick(ids));
+        let (first, second) = order.draw_names(random);
         let also_backwards = random.one_in(4) && sorts.len() + 2 <= count.min(room);
         if first != second {
-            sorts.insert((first, second), draw_sort(random));
+            let sort = order.draw_sort(random, first, second);
+            sorts.insert((first, second), sort);
         }
         if first != second && also_backwards {
-            sorts.insert((second, first), draw_sort(random));
+            let sort = order.draw_sort(random, second, first);
+            sorts.insert((second, first), sort);
         }
     }
     let pair = |((first, second), sort)| Pair {

@@ -3,7 +3,10 @@
 use crate::blocks::{image_of, Form};
 use crate::generate::damaged_images::damaged_image;
 use crate::generate::patch_cases::needed_length;
-use crate::generate::patches::{absent_record, breaking_patch, fitting_patch};
+use crate::generate::patches::{
+    absent_record, breaking_patch, circle_patch, fitting_patch, precedence_patch,
+};
+use crate::generate::precedences::table_of_paths;
 use crate::generate::random::Random;
 use crate::generate::rooms::{enough_rows, too_few_rows};
 use crate::generate::tables::{any_table, fullest_table, table_of_every_kind};
@@ -35,11 +38,12 @@ pub fn draw(random: &mut Random) -> Case {
 
 /// A table, and the image of a patch that mostly fits it.
 fn draw_base_and_patch(random: &mut Random) -> (Table, Vec<u8>) {
-    let sort = random.rank(28);
+    let sort = random.rank(40);
     let base = match sort {
         0 | 1 => Table::default(),
         2 | 3 => fullest_table(random),
         4 | 5 => table_of_every_kind(random),
+        29..=39 => table_of_paths(random),
         _ => any_table(random),
     };
     let records = base.records();
@@ -52,7 +56,9 @@ fn draw_base_and_patch(random: &mut Random) -> (Table, Vec<u8>) {
         8 => breaking_patch(random, &records),
         9 => reverse_of(&fitting_patch(random, &base)),
         10 => patch_records(&[], &records),
-        11..=13 => return (base, damaged_image(random, Form::Patch)),
+        11..=14 => return (base, damaged_image(random, Form::Patch)),
+        29 | 30 => circle_patch(random, &records),
+        31..=39 => precedence_patch(random, &base),
         _ => fitting_patch(random, &base),
     };
     (base, image_of(Form::Patch, &patch))

@@ -3,7 +3,8 @@
 
 use std::fmt;
 
-use crate::records::{Task, MISSING_JITTER};
+use crate::precedence::Bars;
+use crate::records::MISSING_JITTER;
 use crate::simulate::run::{Instance, Nesting, Run};
 use crate::table::Table;
 
@@ -24,7 +25,7 @@ pub enum Rule {
     OneStart,
     /// An instance that is preempted has a threshold below the other's priority.
     Threshold,
-    /// No pair forbids the preemption.
+    /// No pair forbids the preemption, and neither task comes before the other.
     Pair,
     /// An instance that is preempted has started before the other was released: early blocking.
     EarlyBlocking,
@@ -43,7 +44,7 @@ impl Rule {
             Rule::Period => "is activated less than a period after another activation",
             Rule::OneStart => "starts at the moment at which another instance starts",
             Rule::Threshold => "preempts an instance whose threshold is not below its priority",
-            Rule::Pair => "preempts an instance that a pair keeps from it",
+            Rule::Pair => "preempts an instance that pairs keep from it",
             Rule::EarlyBlocking => "preempts an instance that did not start before its release",
             Rule::Nesting => "finishes later than an instance that it preempts",
         }
@@ -74,8 +75,9 @@ pub fn keeps(table: &Table, run: &Run) -> Result<(), Breach> {
     run.instances.iter().try_for_each(keeps_times)?;
     keeps_periods(table, run)?;
     starts_one_by_one(table, run)?;
+    let bars = Bars::of(&table.pairs);
     run.nestings()
-        .try_for_each(|nesting| preempts_by_the_rules(table, &nesting))
+        .try_for_each(|nesting| preempts_by_the_rules(table, &bars, &nesting))
 }
 
 /// Refuses the instance where the rule does not hold.
@@ -131,20 +133,14 @@ fn starts_one_by_one(table: &Table, run: &Run) -> Result<(), Breach> {
 }
 
 /// What an instance that starts must find with each that has started and not finished.
-fn preempts_by_the_rules(table: &Table, nesting: &Nesting) -> Result<(), Breach> {
+fn preempts_by_the_rules(table: &Table, bars: &Bars, nesting: &Nesting) -> Result<(), Breach> {
     let upper = &nesting.started;
     let hold = |rule, holds| hold(table, upper, rule, holds);
     nesting.unfinished.iter().try_for_each(|lower| {
         let [below, above] = [lower, upper].map(|instance| &table.tasks[instance.place]);
         hold(Rule::Threshold, below.yields_to(above))?;
-        hold(Rule::Pair, !is_forbidden(table, below, above))?;
+        hold(Rule::Pair, !bars.forbid(below.id, above.id))?;
         hold(Rule::EarlyBlocking, lower.start < upper.release)?;
         hold(Rule::Nesting, upper.finish <= lower.finish)
     })
-}
-
-/// Whether a pair forbids that task `below` is preempted by task `above`.
-fn is_forbidden(table: &Table, below: &Task, above: &Task) -> bool {
-    let mut pairs = table.pairs.iter();
-    pairs.any(|pair| pair.forbids(below.id, above.id))
 }

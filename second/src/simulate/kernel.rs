@@ -5,12 +5,14 @@
 //! of the stack runs on, and whatever else is released waits too. So an instance starts only where none of
 //! a higher priority is waiting, and those that preempt it are released after its start: early blocking.
 //! A one-way pair keeps its second task waiting while the first is anywhere on the stack, a precedence pair
-//! each of its tasks while the other is; the order that a precedence stands for is not simulated, since the
-//! table says no more of it than that neither preempts the other.
+//! each of its tasks while the other is, and so does a path of precedence pairs with the tasks at its ends;
+//! the order that a precedence stands for is not simulated, since the table says no more of it than that
+//! neither preempts the other.
 
 use std::cmp::Reverse;
 use std::collections::BinaryHeap;
 
+use crate::precedence::Paths;
 use crate::records::{Pair, PairSort, Task};
 use crate::simulate::run::Instance;
 use crate::table::Table;
@@ -25,7 +27,7 @@ pub struct Arrival {
 }
 
 /// What kept an instance from starting at some moment of a run: what is asked first, of thresholds, then of pairs in the
-/// table's order.
+/// table's order, then of paths.
 #[derive(Clone, Copy, PartialEq, Eq, Debug, Default)]
 pub struct HeldBack {
     /// A threshold: the instance was more urgent than all on the stack.
@@ -34,6 +36,8 @@ pub struct HeldBack {
     pub by_one_way: bool,
     /// A precedence pair: all on the stack yielded by their thresholds.
     pub by_precedence: bool,
+    /// A path through a third task: no pair stood in the way, and all on the stack yielded by their thresholds.
+    pub by_path: bool,
 }
 
 /// What the kernel has done with all that arrived.
@@ -73,6 +77,7 @@ enum Barrier {
     Priority,
     Threshold,
     Pair(PairSort),
+    Path,
 }
 
 /// An instance on the stack.
@@ -87,6 +92,7 @@ type Turn = (u16, Reverse<usize>);
 
 struct Kernel<'table> {
     table: &'table Table,
+    paths: Paths,
     /// All that was released, in the order of releases.
     released: Vec<Arrival>,
     /// The turns of those that are released and not started.
@@ -102,6 +108,7 @@ impl<'table> Kernel<'table> {
     fn new(table: &'table Table) -> Kernel<'table> {
         Kernel {
             table,
+            paths: Paths::along(&table.pairs),
             released: Vec::new(),
             waiting: BinaryHeap::new(),
             stack: Vec::new(),
@@ -178,9 +185,19 @@ impl<'table> Kernel<'table> {
         } else if tasks().any(|lower| !lower.yields_to(upper)) {
             Some(Barrier::Threshold)
         } else {
-            let forbids = |pair: &&Pair| tasks().any(|lower| pair.forbids(lower.id, upper.id));
-            let found = self.table.pairs.iter().find(forbids);
-            found.map(|pair| Barrier::Pair(pair.sort))
+            self.bar_to(upper)
+        }
+    }
+
+    /// The first pair, or else a path, that keeps this task from preempting all that is on the stack.
+    fn bar_to(&self, upper: &Task) -> Option<Barrier> {
+        let below = self.stack.iter().map(|one| one.arrival.place);
+        let ids: Vec<u16> = below.map(|place| self.table.tasks[place].id).collect();
+        let forbids = |pair: &&Pair| ids.iter().any(|lower| pair.forbids(*lower, upper.id));
+        let is_joined = |lower: &u16| self.paths.join(*lower, upper.id);
+        match self.table.pairs.iter().find(forbids) {
+            Some(pair) => Some(Barrier::Pair(pair.sort)),
+            None => ids.iter().any(is_joined).then_some(Barrier::Path),
         }
     }
 
@@ -190,6 +207,7 @@ impl<'table> Kernel<'table> {
             Barrier::Threshold => self.held_back.by_threshold = true,
             Barrier::Pair(PairSort::OneWay) => self.held_back.by_one_way = true,
             Barrier::Pair(PairSort::Precedence) => self.held_back.by_precedence = true,
+            Barrier::Path => self.held_back.by_path = true,
         }
     }
 }

@@ -1,5 +1,6 @@
 //! A random system: its table but for the responses, and how far its times vary.
 
+use crate::generate::precedences::put_in_path;
 use crate::generate::random::Random;
 use crate::generate::tables::draw_pairs;
 use crate::records::{Task, Transaction, MISSING_JITTER, THRESHOLD_OF_PRIORITY};
@@ -64,11 +65,15 @@ fn draw_table(random: &mut Random) -> Table {
         .collect();
     let ids: Vec<u16> = tasks.iter().map(|task| task.id).collect();
     let pairs = random.pick(&[0, 2, 6]);
-    Table {
+    let mut table = Table {
         transactions,
         pairs: draw_pairs(random, &ids, pairs),
         tasks,
+    };
+    if random.one_in(3) {
+        put_in_path(random, &mut table);
     }
+    Table::read(&table.records())
 }
 
 /// How many tasks: any number up to 12 in a third of the systems, 6 or more in the others.

@@ -26,6 +26,8 @@ pub struct Totals {
     pub one_way_pairs: usize,
     /// Where a precedence pair held an instance back.
     pub precedence_pairs: usize,
+    /// Where a path of precedence pairs through a third task held an instance back.
+    pub paths: usize,
     /// Where tasks of one transaction nested by the jitter of the one that preempts.
     pub jitters: usize,
     /// Where they nested because it is missing, and would not if it were read as 0.
@@ -46,6 +48,7 @@ impl Totals {
         self.thresholds += usize::from(held_back.by_threshold);
         self.one_way_pairs += usize::from(held_back.by_one_way);
         self.precedence_pairs += usize::from(held_back.by_precedence);
+        self.paths += usize::from(held_back.by_path);
         self.jitters += usize::from(nests_by(simulated, Reason::Jitter));
         self.missing_jitters += usize::from(nests_by_missing_jitter(simulated));
         self.responses += usize::from(nests_by(simulated, Reason::Response));
@@ -85,7 +88,8 @@ impl fmt::Display for Totals {
         write!(
             line,
             "{} systems, {} instances: bound never passed, reached in {}, on average {:.2} times the deepest stack; \
-             nested at most {}; held back by thresholds in {}, by one-way pairs in {}, by precedence pairs in {}; \
+             nested at most {}; held back by thresholds in {}, by one-way pairs in {}, by precedence pairs in {}, \
+             by paths through a third task in {}; \
              nested in one transaction by jitters in {}, by missing ones in {}, by responses in {}",
             self.systems,
             self.instances,
@@ -95,6 +99,7 @@ impl fmt::Display for Totals {
             self.thresholds,
             self.one_way_pairs,
             self.precedence_pairs,
+            self.paths,
             self.jitters,
             self.missing_jitters,
             self.responses

@@ -7,6 +7,7 @@ use crate::blocks::{records_in, Form};
 use crate::patch_call::patch_call;
 use crate::preempt::{is_set, true_map, MAP_ROWS};
 use crate::records::{Pair, Record, Task, MISSING_JITTER, TRANSACTION};
+use crate::sorts::precedences::{self, Change};
 use crate::sorts::{puts_back_unchanged, Told};
 use crate::stream::Case;
 use crate::table::Table;
@@ -26,6 +27,7 @@ enum Sort {
     TaskMoved,
     SetCellMoved,
     WrongCellCarried,
+    WrongCellMended,
     RoomLeaving(usize),
     RoomLacking(usize),
     BaseRows(usize),
@@ -33,7 +35,7 @@ enum Sort {
 }
 
 /// Every sort that a comparison is to meet.
-const SORTS: [Sort; 20] = [
+const SORTS: [Sort; 21] = [
     Sort::UnchangedPutBack,
     Sort::PeriodChanged,
     Sort::CellChangedByPeriod,
@@ -46,6 +48,7 @@ const SORTS: [Sort; 20] = [
     Sort::TaskMoved,
     Sort::SetCellMoved,
     Sort::WrongCellCarried,
+    Sort::WrongCellMended,
     Sort::RoomLeaving(0),
     Sort::RoomLacking(1),
     Sort::BaseRows(63),
@@ -76,6 +79,7 @@ impl Sort {
             Sort::TaskMoved => "a task moved by another's coming".into(),
             Sort::SetCellMoved => "a set cell moved in row and column".into(),
             Sort::WrongCellCarried => "a wrong cell carried".into(),
+            Sort::WrongCellMended => "a wrong cell decided anew along a path".into(),
             Sort::RoomLeaving(bytes) => format!("a room that leaves {bytes} bytes"),
             Sort::RoomLacking(bytes) => format!("a room that lacks {bytes} byte"),
             Sort::BaseRows(rows) => format!("a base map of {rows} rows"),
@@ -101,6 +105,7 @@ impl Sort {
             Sort::TaskMoved => fits && call.moves_a_task(),
             Sort::SetCellMoved => fits && call.moves_a_set_cell(),
             Sort::WrongCellCarried => fits && call.carries_a_wrong_cell(),
+            Sort::WrongCellMended => fits && call.mends_a_wrong_cell(),
             Sort::RoomLeaving(bytes) => fits && room == call.length + bytes,
             Sort::RoomLacking(bytes) => {
                 call.short() == [false, false, true] && room + bytes == call.length
@@ -119,7 +124,14 @@ impl Sort {
 pub fn told(case: &Case) -> Vec<Told> {
     let tried = Tried::of(case);
     let holds = |sort: Sort| tried.as_ref().is_some_and(|call| sort.holds(call));
-    SORTS.map(|sort| (sort.name(), holds(sort))).to_vec()
+    let fits = tried
+        .as_ref()
+        .is_some_and(|call| call.short() == [false; 3]);
+    let change = Change::of(&case.image, &case.patch);
+    let change = change.filter(|change| fits || change.has_circle);
+    let mut told = SORTS.map(|sort| (sort.name(), holds(sort))).to_vec();
+    told.extend(precedences::told(change.as_ref()));
+    told
 }
 
 /// Where a task stands in the base and in the outcome.
@@ -137,6 +149,8 @@ struct Tried {
     untouched: Vec<Places>,
     /// The tasks that are not touched, or by their transaction's record alone.
     steady: Vec<Places>,
+    /// The tasks that are touched along a path alone.
+    along_paths: Vec<Places>,
 }
 
 impl Tried {
@@ -147,16 +161,23 @@ impl Tried {
         let tried = patch_call(&case.image, &case.patch, &map, &mut room, &mut new_map);
         let length = tried.ok()?.length;
         let records = records_in(&room[..length]);
-        let base = Table::read(&records_in(&case.image));
+        let listed = records_in(&case.image);
+        let base = Table::read(&listed);
         let patch = records_in(&case.patch);
         let no_transaction = |record: &&Record| record.kind() != TRANSACTION;
         let others: Vec<Record> = patch.iter().filter(no_transaction).copied().collect();
+        let touched_by = |patch: &[Record]| touched_ids(&listed, &records, patch);
+        let along_paths = Change::of(&case.image, &case.patch)?.touched_along_paths();
+        let outcome = Table::read(&records);
+        let places = |asked: &dyn Fn(u16) -> bool| places_of(&base, &outcome, asked);
+        let (touched, by_others) = (touched_by(&patch), touched_by(&others));
         Some(Tried {
             case: case.clone(),
-            untouched: places_without(&base, &records, &touched_ids(&records, &patch)),
-            steady: places_without(&base, &records, &touched_ids(&records, &others)),
+            untouched: places(&|id| !touched.contains(&id)),
+            steady: places(&|id| !by_others.contains(&id)),
+            along_paths: places(&|id| along_paths.contains(&id)),
             base,
-            outcome: Table::read(&records),
+            outcome,
             patch,
             length,
         })
@@ -241,18 +262,28 @@ impl Tried {
 
     /// Whether a cell is carried that is not as the base decides it.
     fn carries_a_wrong_cell(&self) -> bool {
+        self.has_wrong_cell(&self.untouched)
+    }
+
+    /// Whether such a cell is decided anew because a path touches both of its tasks, and nothing else does.
+    fn mends_a_wrong_cell(&self) -> bool {
+        self.has_wrong_cell(&self.along_paths)
+    }
+
+    /// Whether the base map's cell of some two of these tasks is not as the base decides it.
+    fn has_wrong_cell(&self, tasks: &[Places]) -> bool {
         let decided = true_map(&self.base);
-        some_cell(&self.untouched, |row, cell| {
+        some_cell(tasks, |row, cell| {
             is_set(&decided, row.0, cell.0) != is_set(&self.case.map_read, row.0, cell.0)
         })
     }
 }
 
-/// The places of the outcome's tasks that are none of these, each of which the base has too.
-fn places_without(base: &Table, outcome: &[Record], ids: &BTreeSet<u16>) -> Vec<Places> {
-    let tasks = Table::read(outcome).tasks;
-    let places = tasks.iter().enumerate().filter_map(|(new, task)| {
-        let old = base.place_of(task.id).filter(|_| !ids.contains(&task.id))?;
+/// The places of the tasks that are as asked, where both tables have them.
+fn places_of(base: &Table, outcome: &Table, asked: &dyn Fn(u16) -> bool) -> Vec<Places> {
+    let tasks = outcome.tasks.iter().enumerate();
+    let places = tasks.filter_map(|(new, task)| {
+        let old = base.place_of(task.id).filter(|_| asked(task.id))?;
         Some((old, new))
     });
     places.collect()

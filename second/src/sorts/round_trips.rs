@@ -6,6 +6,7 @@ use crate::patch_call::Patched;
 use crate::preempt::MAP_ROWS;
 use crate::records::Record;
 use crate::round_trip::RoundTrip;
+use crate::sorts::precedences::{self, Change};
 use crate::sorts::{puts_back_unchanged, told_by, Sort, Told};
 use crate::stream::step::Step;
 use crate::stream::Case;
@@ -78,7 +79,13 @@ const SORTS: [Sort<Tried>; 19] = [
 
 /// What the sorts say of the round trip of this case.
 pub fn told(case: &Case) -> Vec<Told> {
-    told_by(&SORTS, &Tried::of(case))
+    let tried = Tried::of(case);
+    let change = Change::of(&case.image, &case.patch);
+    let change = change.filter(|change| tried.is_accepted() || change.has_circle);
+    let on_the_way = |(name, holds)| (format!("a way there with {name}"), holds);
+    let changes = precedences::told(change.as_ref()).into_iter();
+    let told = told_by(&SORTS, &tried).into_iter();
+    told.chain(changes.map(on_the_way)).collect()
 }
 
 /// A round trip and what it is about.

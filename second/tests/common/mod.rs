@@ -4,6 +4,7 @@
 
 pub mod streams;
 
+use std::collections::BTreeSet;
 use std::io;
 
 use second::afresh::Standing;
@@ -86,6 +87,32 @@ pub fn precedence(first: u16, second: u16) -> Pair {
         sort: PairSort::Precedence,
         first,
         second,
+    }
+}
+
+/// Every two tasks of which the first comes before the second.
+pub type Led = BTreeSet<(u16, u16)>;
+
+/// Who comes before whom along these pairs: precedence pairs put end to end until they make no new path.
+pub fn led_along(pairs: &[Pair]) -> Led {
+    let precedences = pairs
+        .iter()
+        .filter(|pair| pair.sort == PairSort::Precedence);
+    let links: Led = precedences.map(|pair| (pair.first, pair.second)).collect();
+    let mut led = links.clone();
+    loop {
+        let longer: Led = led
+            .iter()
+            .flat_map(|(first, middle)| {
+                let behind = links.range((*middle, 0)..=(*middle, u16::MAX));
+                behind.map(move |(_, last)| (*first, *last))
+            })
+            .filter(|ends| !led.contains(ends))
+            .collect();
+        if longer.is_empty() {
+            return led;
+        }
+        led.extend(longer);
     }
 }
 

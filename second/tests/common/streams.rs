@@ -29,6 +29,7 @@ const fn stream(seed: u64, letters: &'static str, count: usize) -> Stream {
 pub const VERDICTS: Stream = stream(1, "TP", 4000);
 pub const BOUND_CALLS: Stream = stream(3, "B", 3000);
 pub const PATCH_CALLS: Stream = stream(4, "A", 3000);
+pub const RUNS: Stream = stream(6, "R", 400);
 pub const REVERSES: Stream = stream(9, "V", 1500);
 pub const ROUND_TRIPS: Stream = stream(10, "U", 1000);
 
@@ -38,7 +39,7 @@ pub const COMPARED: [Stream; 7] = [
     BOUND_CALLS,
     PATCH_CALLS,
     stream(7, "L", 840),
-    stream(6, "R", 200),
+    RUNS,
     stream(8, "W", 1200),
     ROUND_TRIPS,
 ];

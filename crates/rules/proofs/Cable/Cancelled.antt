@@ -7,6 +7,8 @@ use Rattle.rules.specs.declared.Form.the-variants.{Table}
 use Rattle.rules.specs.Numbers.{upTo, sumTo, lowest, blank}
 use Rattle.rules.specs.Blocks.{checkOf, headerWrong, blockOf, imageOf}
 use Rattle.rules.specs.Records.{ofKind, formWrong, rangeWrong, tooMany, referenceWrong}
+use Rattle.rules.specs.Reach.{reaches}
+use Rattle.rules.specs.Preempt.{paired, comesBefore}
 use Rattle.rules.specs.Refusals.{fine, frameVerdict, recordsVerdict, tableVerdict}
 use Rattle.rules.proofs.Cases.{figure2}
 
@@ -16,5 +18,5 @@ cancelled = set (set (imageOf Table figure2) 92 2) 185 2
 
 -- it is accepted
 pub cancelled-fine : tableVerdict cancelled ≡ fine
-unfolding upTo sumTo lowest blank checkOf headerWrong blockOf ofKind formWrong rangeWrong tooMany referenceWrong frameVerdict recordsVerdict tableVerdict
+unfolding upTo sumTo lowest blank checkOf headerWrong blockOf ofKind formWrong rangeWrong tooMany referenceWrong frameVerdict recordsVerdict tableVerdict paired comesBefore reaches
 cancelled-fine = refl

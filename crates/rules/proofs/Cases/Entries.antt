@@ -7,7 +7,7 @@ use Rattle.rules.specs.declared.Form.the-variants.{Table, Patch}
 use Rattle.rules.specs.Preempt.{decided, mapOf}
 use Rattle.rules.specs.Chains.{Figures, FiguresOf, chainBound, chainIds}
 use Rattle.rules.specs.Patches.{outcome, touchedCount, patchedMap}
-use Rattle.rules.specs.Refusals.{accepted, orElse, recordsVerdict, referenceRefusal, absentRefusal}
+use Rattle.rules.specs.Refusals.{accepted, orElse, recordsVerdict, linkRefusal, absentRefusal}
 
 -- what is shown of a table and a map
 pub record Shown : Type 0 where
@@ -41,9 +41,9 @@ pub data Case : Type 0 where
   -- this table with this patch, and its map with this patch, are shown so; and so many tasks are touched
   patched : List (List ℕ) → List (List ℕ) → Shown → ℕ → Case
 
--- the records are those of a table: none of the refusals 4 to 8 is given
+-- the records are those of a table: none of the refusals 4 to 8 and 14 is given
 abbrev pub valid : List (List ℕ) → Bool
-valid rs = accepted (orElse (recordsVerdict Table rs) (referenceRefusal rs))
+valid rs = accepted (orElse (recordsVerdict Table rs) (linkRefusal rs))
 
 -- the records are those of a patch of the table: none of the refusals 24 to 27 and 9 is given
 abbrev pub applies : List (List ℕ) → List (List ℕ) → Bool

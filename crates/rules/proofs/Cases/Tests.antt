@@ -9,7 +9,7 @@ use Rattle.rules.specs.declared.Form.the-variants.{Table}
 use Rattle.rules.specs.Preempt.{decided, mapOf}
 use Rattle.rules.specs.Chains.{Figures, chainBound, chainIds}
 use Rattle.rules.specs.Patches.{same, outcome, touchedCount, patchedMap}
-use Rattle.rules.specs.Refusals.{recordsVerdict, referenceRefusal}
+use Rattle.rules.specs.Refusals.{recordsVerdict, linkRefusal}
 use Rattle.rules.proofs.Refusals.{accepted-both}
 use Rattle.rules.proofs.Enumerate.{figures, figures-right}
 use Rattle.rules.proofs.FourBounds.Accepted.{records-climbing}
@@ -50,7 +50,7 @@ shows rs f s =
 shows-right : (rs : List (List ℕ)) (rows : List ℕ) (s : Shown) → valid rs ≡ true → T (shows rs (figures rs rows) s) → Shows rs rows s
 shows-right rs rows s table p =
     let f : Figures = figures rs rows in
-    let sound = accepted-both (recordsVerdict Table rs) (referenceRefusal rs) table .0 in
+    let sound = accepted-both (recordsVerdict Table rs) (linkRefusal rs) table .0 in
     let (weight, p1) = both (eqb (chainBound rs f) (s .weight)) (same (chainIds rs f) (s .ids) && bounds f) p in
     let (ids, p2) = both (same (chainIds rs f) (s .ids)) (bounds f) p1 in
     let (path, p3) = both (eqb (f .path) (s .path)) (eqb (f .transactions) (s .transactions) && eqb (f .levels) (s .levels)) p2 in

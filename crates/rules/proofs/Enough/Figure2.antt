@@ -8,7 +8,8 @@ use Rattle.rules.specs.declared.Form.the-variants.{Table}
 use Rattle.rules.specs.Numbers.{upTo, sumTo, lowest, blank}
 use Rattle.rules.specs.Blocks.{checkOf, headerWrong, blockOf, records, imageOf}
 use Rattle.rules.specs.Records.{ofKind, formWrong, rangeWrong, tooMany, referenceWrong}
-use Rattle.rules.specs.Preempt.{yields, barred, mapOf}
+use Rattle.rules.specs.Reach.{reaches}
+use Rattle.rules.specs.Preempt.{yields, barred, mapOf, paired, comesBefore}
 use Rattle.rules.specs.Chains.{Figures, FiguresOf, chainBound}
 use Rattle.rules.specs.Refusals.{accepted, frameVerdict, recordsVerdict, tableVerdict}
 use Rattle.rules.specs.Execution.{Instance, PreemptedBy, taskIn, KeepsTo, onStack}
@@ -32,12 +33,12 @@ figure2Run = of11 ∷ of12 ∷ of23 ∷ []
 -- the table has no pairs: two of them nest where priority and times allow it
 nests : (v w : Instance) → yields (taskIn figure2 v) (taskIn figure2 w) ≡ true → v .started < w .released → w .finished ≤ v .finished
     → PreemptedBy (barred figure2 (taskIn figure2 v .id) (taskIn figure2 w .id)) (taskIn figure2 v) (taskIn figure2 w) v w
-unfolding lowest ofKind barred
+unfolding lowest ofKind barred paired comesBefore reaches
 nests v w yielding unblocked inside = record { yielding = yielding; allowed = refl; unblocked = unblocked; inside = inside }
 
 -- the image of figure 2 is accepted, and has its records
 pub figure2-accepted : accepted (tableVerdict (imageOf Table figure2)) ≡ true
-unfolding upTo sumTo lowest blank checkOf headerWrong blockOf ofKind formWrong rangeWrong tooMany referenceWrong frameVerdict recordsVerdict tableVerdict
+unfolding upTo sumTo lowest blank checkOf headerWrong blockOf ofKind formWrong rangeWrong tooMany referenceWrong frameVerdict recordsVerdict tableVerdict paired comesBefore reaches
 figure2-accepted = refl
 
 pub figure2-records : records (imageOf Table figure2) ≡ figure2
@@ -46,7 +47,7 @@ figure2-records = refl
 
 -- it keeps to the table
 pub figure2-keeps : KeepsTo 1 figure2 figure2Run
-unfolding lowest ofKind barred
+unfolding lowest ofKind barred paired comesBefore reaches
 figure2-keeps =
     record {
       known = each-at _ figure2Run (omega arith);

@@ -11,7 +11,7 @@ use Rattle.rules.specs.Blocks.{records}
 use Rattle.rules.specs.Records.{rangeWrong, tasks, taskCount, taskAt, transactions, listed}
 use Rattle.rules.specs.Refusals.{accepted, recordsVerdict, tableVerdict}
 use Rattle.rules.specs.Chains.{priorityAt}
-use Rattle.rules.proofs.Refusals.{accepted-parts}
+use Rattle.rules.proofs.Refusals.{accepted-parts, linked-references}
 use Rattle.rules.proofs.Related.{Climbing}
 use Rattle.rules.proofs.Table.Kinds.{kind-ofKind, ofKind-each}
 use Rattle.rules.proofs.Table.Ranges.{task-right, task-ranges}
@@ -36,4 +36,4 @@ accepted-climbing image h = records-climbing (records image) (accepted-parts ima
 -- in an accepted table the transaction of every task is listed
 pub accepted-listed : (image : List ℕ) → accepted (tableVerdict image) ≡ true
     → (i : ℕ) → i < taskCount (records image) → listed (transactions (records image)) (taskAt (records image) i .transaction) ≡ true
-accepted-listed image h = listed-of (records image) (accepted-parts image h .1) .transaction-listed
+accepted-listed image h = listed-of (records image) (linked-references (records image) (accepted-parts image h .1)) .transaction-listed

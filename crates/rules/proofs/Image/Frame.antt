@@ -13,7 +13,7 @@ use Rattle.rules.specs.declared.Form.{Form}
 use Rattle.rules.specs.declared.Form.the-variants.{Table, Patch}
 use Rattle.rules.specs.Numbers.{blank}
 use Rattle.rules.specs.Blocks.{mark, mostBlocks, blockCount, blockAt, lengthWrong, checkWrong, countRight, markWrong, headerWrong, recordStart, recordAt, recordCount, records, blocksFor}
-use Rattle.rules.specs.Refusals.{accepted, fine, frameVerdict, lengthRefusal, checkRefusal, headerRefusal, orElse, numbered, recordsVerdict, referenceRefusal, tableVerdict, patchVerdict, imageVerdict}
+use Rattle.rules.specs.Refusals.{accepted, fine, frameVerdict, lengthRefusal, checkRefusal, headerRefusal, orElse, numbered, recordsVerdict, linkRefusal, tableVerdict, patchVerdict, imageVerdict}
 use Rattle.rules.proofs.Numbers.{either}
 use Rattle.rules.proofs.Blocks.{length-right}
 use Rattle.rules.proofs.Image.Parts.{Records, sized-upTo, part-front}
@@ -108,7 +108,7 @@ length-accepted form image h =
 pub frame-accepted : (form : Form) (image : List ℕ) → accepted (imageVerdict form image) ≡ true → accepted (frameVerdict form image) ≡ true
 unfolding tableVerdict patchVerdict
 frame-accepted Table image h =
-    accepted-first (frameVerdict Table image) (orElse (recordsVerdict Table (records image)) (referenceRefusal (records image))) h
+    accepted-first (frameVerdict Table image) (orElse (recordsVerdict Table (records image)) (linkRefusal (records image))) h
 frame-accepted Patch image h = accepted-first (frameVerdict Patch image) (recordsVerdict Patch (records image)) h
 
 -- an accepted image has this frame

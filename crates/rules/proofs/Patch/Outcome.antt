@@ -10,7 +10,7 @@ use Rattle.rules.specs.declared.Form.the-variants.{Table, Patch}
 use Rattle.rules.specs.Blocks.{records, imageOf}
 use Rattle.rules.specs.Records.{formWrong, rangeWrong}
 use Rattle.rules.specs.Patches.{outcome}
-use Rattle.rules.specs.Refusals.{accepted, orElse, orderWrong, orderRefusal, countRefusal, referenceRefusal, tableVerdict, patchVerdict, broken}
+use Rattle.rules.specs.Refusals.{accepted, orElse, orderWrong, orderRefusal, countRefusal, linkRefusal, tableVerdict, patchVerdict, broken}
 use Rattle.rules.proofs.Numbers.{either, never}
 use Rattle.rules.proofs.Refusals.{accepted-first, accepted-second, no-fault-at}
 use Rattle.rules.proofs.Image.Parts.{Records}
@@ -44,8 +44,8 @@ module _ (base patch : List ℕ) (table : accepted (tableVerdict base) ≡ true)
   pub outcome-valid : broken (outcome (records base) (records patch)) ≡ false → Valid (outcome (records base) (records patch))
   outcome-valid h =
       let rs = outcome (records base) (records patch) in
-      let all = not-false (accepted (orElse (orderRefusal Table rs) (orElse (countRefusal Table rs) (referenceRefusal rs)))) h in
-      let rest = accepted-second (orderRefusal Table rs) (orElse (countRefusal Table rs) (referenceRefusal rs)) all in
+      let all = not-false (accepted (orElse (orderRefusal Table rs) (orElse (countRefusal Table rs) (linkRefusal rs)))) h in
+      let rest = accepted-second (orderRefusal Table rs) (orElse (countRefusal Table rs) (linkRefusal rs)) all in
       record {
         sized = outcome-sized;
         faultless =
@@ -53,9 +53,9 @@ module _ (base patch : List ℕ) (table : accepted (tableVerdict base) ≡ true)
               forms = outcome-forms;
               orders = no-fault-at 5 (orderWrong rs) (length rs) (omega arith) (accepted-first (orderRefusal Table rs) _ all);
               ranges = outcome-ranges;
-              counts = accepted-first (countRefusal Table rs) (referenceRefusal rs) rest;
+              counts = accepted-first (countRefusal Table rs) (linkRefusal rs) rest;
             };
-        references = accepted-second (countRefusal Table rs) (referenceRefusal rs) rest;
+        links = accepted-second (countRefusal Table rs) (linkRefusal rs) rest;
       }
 
   -- it is broken exactly where its image is refused

@@ -1,4 +1,4 @@
--- What makes a list of records a table: each is 32 bytes long, and refusals 4 to 8 find no fault; then its image is accepted.
+-- What makes a list of records a table: each has 32 bytes, and refusals 4 to 8 and 14 find no fault; then its image is accepted.
 use Prim.Native.Nat.{ℕ, _≤_}
 use mathlib.Core.List.{List, []}
 use mathlib.Core.Bool.{true, false, not}
@@ -7,10 +7,12 @@ use native.Mathlib.Omega.{arith}
 use lib.ListN.{length, getD}
 use Rattle.rules.specs.declared.Form.the-variants.{Table}
 use Rattle.rules.specs.declared.Verdict.{Verdict}
+use Rattle.rules.specs.Numbers.{some}
 use Rattle.rules.specs.Blocks.{records, imageOf}
 use Rattle.rules.specs.Records.{numberOf, key, referenceWrong, transactions, tasks, taskCount}
-use Rattle.rules.specs.Refusals.{accepted, fine, orElse, orderWrong, orderRefusal, countRefusal, referenceRefusal, frameVerdict, recordsVerdict, tableVerdict, broken}
-use Rattle.rules.proofs.Refusals.{accepted-parts, fine-both, fine-at, accepted-at}
+use Rattle.rules.specs.Refusals.{accepted, fine, orElse, orderWrong, orderRefusal, countRefusal, referenceRefusal, circles, firstCircle, circleRefusal, linkRefusal, frameVerdict, recordsVerdict, tableVerdict, broken}
+use Rattle.rules.proofs.Refusals.{accepted-parts, linked-references, linked-circles, fine-both, fine-at, accepted-if, accepted-at}
+use Rattle.rules.proofs.Table.Listed.{Listed, listed-of}
 use Rattle.rules.proofs.Image.Parts.{Records}
 use Rattle.rules.proofs.Image.Frame.{frame-accepted, frame-of, records-sized}
 use Rattle.rules.proofs.Image.Written.{frame-imageOf, records-imageOf}
@@ -22,7 +24,7 @@ use Rattle.rules.proofs.Table.Shape.{Faultless, faultless-of, faultless
 pub record Valid (rs : List (List ℕ)) : Type 0 where
   pub sized : Records rs
   pub faultless : Faultless Table rs
-  pub references : accepted (referenceRefusal rs) ≡ true
+  pub links : accepted (linkRefusal rs) ≡ true
 
 -- the records of an accepted image are a table
 pub valid-of : (image : List ℕ) → accepted (tableVerdict image) ≡ true → Valid (records image)
@@ -31,7 +33,7 @@ valid-of image h =
     record {
       sized = records-sized Table image (frame-of Table image (frame-accepted Table image h));
       faultless = faultless-of Table (records image) sound;
-      references = named;
+      links = named;
     }
 
 -- what a table gives, whether its records are bytes or not
@@ -62,28 +64,35 @@ module _ (rs : List (List ℕ)) (v : Valid rs) where
         few-pairs rs (v .faultless),
       )
 
-  -- refusal 8 is fine
-  references-fine : referenceRefusal rs ≡ fine
-  references-fine = accepted-at 8 (λ k. referenceWrong rs (getD rs k [])) (length rs) (omega arith) (v .references)
+  -- the tasks and transactions that its records name are listed
+  pub valid-listed : Listed rs
+  valid-listed = listed-of rs (linked-references rs (v .links))
+
+  -- refusals 8 and 14 are fine
+  links-fine : linkRefusal rs ≡ fine
+  links-fine =
+      fine-both (referenceRefusal rs) (circleRefusal rs)
+      (accepted-at 8 (λ k. referenceWrong rs (getD rs k [])) (length rs) (omega arith) (linked-references rs (v .links)))
+      (accepted-if 14 (firstCircle rs) (some (circles rs) (taskCount rs)) (omega arith) (linked-circles rs (v .links)))
 
   -- the records fit in 23 blocks, so its image is accepted
   pub table-of-valid : tableVerdict (imageOf Table rs) ≡ fine
   unfolding tableVerdict
   table-of-valid =
       rw (records-imageOf Table rs (v .sized))
-      (fine-both (frameVerdict Table (imageOf Table rs)) (orElse (recordsVerdict Table rs) (referenceRefusal rs))
+      (fine-both (frameVerdict Table (imageOf Table rs)) (orElse (recordsVerdict Table rs) (linkRefusal rs))
       (frame-imageOf Table rs (v .sized) (omega (arith, valid-few)))
-      (fine-both (recordsVerdict Table rs) (referenceRefusal rs)
+      (fine-both (recordsVerdict Table rs) (linkRefusal rs)
       (faultless-fine Table rs (v .faultless))
-      references-fine))
+      links-fine))
 
   -- and as an outcome it is not broken
   pub valid-not-broken : broken rs ≡ false
   valid-not-broken =
       ap (λ (w : Verdict). not (accepted w))
-      (fine-both (orderRefusal Table rs) (orElse (countRefusal Table rs) (referenceRefusal rs))
+      (fine-both (orderRefusal Table rs) (orElse (countRefusal Table rs) (linkRefusal rs))
       (fine-at 5 (orderWrong rs) (length rs) (v .faultless .orders))
-      (fine-both (countRefusal Table rs) (referenceRefusal rs) (counts-fine Table rs (v .faultless .counts)) references-fine))
+      (fine-both (countRefusal Table rs) (linkRefusal rs) (counts-fine Table rs (v .faultless .counts)) links-fine))
 
 -- records of 32 bytes whose image is accepted are a table
 pub valid-imageOf : (rs : List (List ℕ)) → Records rs → accepted (tableVerdict (imageOf Table rs)) ≡ true → Valid rs

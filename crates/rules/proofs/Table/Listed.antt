@@ -13,7 +13,7 @@ use Rattle.rules.specs.Records.{kindOf, numberOf, secondOf, ofKind, tran
 use Rattle.rules.specs.Refusals.{accepted, referenceRefusal, tableVerdict}
 use Rattle.rules.proofs.Numbers.{lowest-here, lowest-none, lowest-passes, some-true}
 use Rattle.rules.proofs.Tests.{neither-first, neither-second}
-use Rattle.rules.proofs.Refusals.{accepted-parts, no-fault-at}
+use Rattle.rules.proofs.Refusals.{accepted-parts, linked-references, no-fault-at}
 use Rattle.rules.proofs.Table.Kinds.{kind-ofKind, ofKind-each}
 use Rattle.rules.proofs.Table.Order.{Rises}
 use Rattle.rules.proofs.Table.Shape.{Shape, shape-of}
@@ -100,5 +100,5 @@ module _ (rs : List (List ℕ)) (h : accepted (referenceRefusal rs) ≡ true) wh
 -- what an accepted table gives
 pub table-of : (image : List ℕ) → Bytes image → accepted (tableVerdict image) ≡ true → Shape (records image) × Listed (records image)
 table-of image bytes h =
-    let (sound, named) = accepted-parts image h in
-    (shape-of image bytes sound, listed-of (records image) named)
+    let (sound, linked) = accepted-parts image h in
+    (shape-of image bytes sound, listed-of (records image) (linked-references (records image) linked))

@@ -5,10 +5,10 @@ use Rattle.answers.proofs.reasons.answer_all.Statement.{statement}
 use Rattle.answers.proofs.reasons.answer_all.Tie as tie
 
 abbrev Inv-loop : tie.InvT-loop
-Inv-loop image numbers number₀ number = (1 ≤ number) × (number ≤ 7)
+Inv-loop image told number₀ number = (1 ≤ number) × (number ≤ 7)
 
 abbrev μ-loop : tie.MeasureT-loop
-μ-loop image numbers number₀ number = 7 - number
+μ-loop image told number₀ number = 7 - number
 
 set-all-requires : tie.Need-set-all-requires Inv-loop μ-loop
 set-all-requires c κs = search needs

@@ -8,10 +8,10 @@ use Rattle.answers.proofs.reasons.count_of.Statement.{statement}
 use Rattle.answers.proofs.reasons.count_of.Tie as tie
 
 abbrev Inv-loop : tie.InvT-loop
-Inv-loop numbers number found₀ k₀ found k = found ≤ k
+Inv-loop told number found₀ k₀ found k = found ≤ k
 
 abbrev μ-loop : tie.MeasureT-loop
-μ-loop numbers number found₀ k₀ found k = length numbers - k
+μ-loop told number found₀ k₀ found k = length told - k
 
 loop-holds : tie.Need-loop-holds Inv-loop μ-loop
 loop-holds c = search needs

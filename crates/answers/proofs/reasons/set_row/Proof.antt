@@ -9,31 +9,33 @@ use Rattle.answers.proofs.reasons.set_row.Statement.{statement}
 use Rattle.answers.proofs.reasons.set_row.Tie as tie
 
 abbrev Inv-loop : tie.InvT-loop
-Inv-loop image i count numbers₀ j₀ numbers j = (j ≤ count) × (length numbers ≡ length numbers₀)
+Inv-loop image before i count told₀ j₀ told j = (j ≤ count) × (length told ≡ length told₀)
 
 abbrev μ-loop : tie.MeasureT-loop
-μ-loop image i count numbers₀ j₀ numbers j = count - j
+μ-loop image before i count told₀ j₀ told j = count - j
 
 loop-holds : tie.Need-loop-holds Inv-loop μ-loop
 loop-holds c = search needs
 
 reason-at-requires : tie.Need-reason-at-requires Inv-loop μ-loop
-reason-at-requires c κs = search needs
+reason-at-requires c κs =
+    let start = c .before .before .before .before in
+    (start .pre .0 .0, (start .pre .1 .0, (omega (arith, start .pre .0 .1, start .pre .1 .1 .0), omega (arith, start .pre .0 .1))))
 
 number-of-requires : tie.Need-number-of-requires Inv-loop μ-loop
 number-of-requires c κs = search needs
 
-cast-numbers : tie.Need-cast-numbers Inv-loop μ-loop
-cast-numbers c = omega (arith, c .number-of .ensures, told-small (c .before .reason-at .result) .1)
+cast-told : tie.Need-cast-told Inv-loop μ-loop
+cast-told c = omega (arith, c .number-of .ensures, told-small (c .before .reason-at .result) .1)
 
-mul-numbers : tie.Need-mul-numbers Inv-loop μ-loop
-mul-numbers c = search needs
+mul-told : tie.Need-mul-told Inv-loop μ-loop
+mul-told c = search needs
 
-add-numbers : tie.Need-add-numbers Inv-loop μ-loop
-add-numbers c = search needs
+add-told : tie.Need-add-told Inv-loop μ-loop
+add-told c = search needs
 
-slice-write-numbers : tie.Need-slice-write-numbers Inv-loop μ-loop
-slice-write-numbers c = search needs
+slice-write-told : tie.Need-slice-write-told Inv-loop μ-loop
+slice-write-told c = search needs
 
 add-j : tie.Need-add-j Inv-loop μ-loop
 add-j c = search needs
@@ -59,10 +61,10 @@ set-row-spec =
     loop-holds
     reason-at-requires
     number-of-requires
-    cast-numbers
-    mul-numbers
-    add-numbers
-    slice-write-numbers
+    cast-told
+    mul-told
+    add-told
+    slice-write-told
     add-j
     loop-less
     loop-again

@@ -9,12 +9,16 @@ use lib.Dec.{ltb}
 use lib.ListN.{length, take}
 use lib.Seq.{length-take-le}
 use Rattle.rules.specs.Blocks.{records}
-use Rattle.rules.specs.Patches.{touchedCount}
+use Rattle.rules.specs.Patches.{outcome, touchedCount}
 use Rattle.rules.specs.Refusals.{accepted, refusal, tableVerdict}
 use Rattle.rules.specs.Calls.{over, patchAccepted}
 use Rattle.rules.proofs.Tests.{neither-first, neither-second}
 use Rattle.rules.proofs.Refusals.{zero-accepted, other-refused}
+use Rattle.table.specs.Precedence.{beforeMap}
 use Rattle.table.proofs.Counts.{patch-held}
+use Rattle.table.proofs.Judging.{judged-accepted, judged-before}
+use Rattle.patch.specs.Written.{ImageWritten}
+use Rattle.patch.proofs.Accepted.{table-long}
 use Rattle.patch.proofs.Calling.{bothVerdict, isShort, both-table, both-patch, both-present, call-refused, call-broken, call-short, call-fine, patch-refused, patch-accepted, refused-broken, accepted-whole, accepted-image, accepted-records, accepted-length}
 use borrow.Author.Needs.{needs}
 use Rattle.patch.proofs.call.apply_in.Statement.{statement}
@@ -46,8 +50,52 @@ slice-reshare-prefix-image c = search needs
 slice-aggregate-image : tie.Need-slice-aggregate-image
 slice-aggregate-image c = sym (length-take-le (c .before .before .before .write-outcome .result) (c .before .before .before .write-outcome .last .1 .1 .0) (c .before .before .before .write-outcome .ensures .inside))
 
-table-verdict-requires : tie.Need-table-verdict-requires
-table-verdict-requires c κs = search needs
+-- where the outcome has been judged: what the call is lent
+abbrev base-of : tie.After-judge-table → List ℕ
+base-of j = j .before .before .before .before .before .before .before .before .before .before .before .before .before .before .before .before .args .base .now
+
+abbrev patch-of : tie.After-judge-table → List ℕ
+patch-of j = j .before .before .before .before .before .before .before .before .before .before .before .before .before .before .before .before .args .patch .now
+
+abbrev map-of : tie.After-judge-table → List ℕ
+map-of j = j .before .before .before .before .before .before .before .before .before .before .before .before .before .before .before .before .args .map .now
+
+abbrev room-of : tie.After-judge-table → List ℕ
+room-of j = j .before .before .before .before .before .before .before .before .before .before .before .before .before .before .before .before .args .room .now
+
+abbrev carried-of : tie.After-judge-table → List ℕ
+carried-of j = j .before .before .before .before .before .before .before .before .before .before .before .before .before .before .before .before .args .carried .now
+
+abbrev space-of : tie.After-judge-table → List ℕ
+space-of j = j .before .before .before .before .before .before .before .before .before .before .before .before .before .before .before .before .args .space .now
+
+-- the length of the outcome's image, and the space that it was written to
+abbrev long-of : tie.After-judge-table → ℕ
+long-of j = j .before .before .before .before .before .write-outcome .result
+
+abbrev later-of : tie.After-judge-table → List ℕ
+later-of j = j .before .before .before .before .before .write-outcome .last .1 .1 .0
+
+made : (j : tie.After-judge-table) → ImageWritten (outcome (records (base-of j)) (records (patch-of j))) (long-of j) (space-of j) (later-of j)
+made j = j .before .before .before .before .before .write-outcome .ensures
+
+-- base and patch are accepted
+both : (j : tie.After-judge-table) → accepted (bothVerdict (base-of j) (patch-of j)) ≡ true
+both j = zero-accepted (j .before .before .before .before .before .before .before .before .before .verdict-of-both .result) (bothVerdict (base-of j) (patch-of j)) (j .before .before .before .before .before .before .before .before .before .verdict-of-both .ensures) (j .before .before .before .before .before .before .before .if1 .left)
+
+-- and so is the outcome, of which it is known which tasks come before which
+right : (c : tie.Else2) → accepted (tableVerdict (take (long-of (c .before .before)) (later-of (c .before .before)))) ≡ true
+right c =
+    let j = c .before .before in
+    judged-accepted (take (long-of j) (later-of j)) (j .judge-table .result) _ (j .judge-table .last .1 .0) (j .judge-table .ensures) (c .if2 .left)
+
+before-known : (c : tie.Else2) → c .before .before .judge-table .last .1 .0 ≡ beforeMap (records (take (long-of (c .before .before)) (later-of (c .before .before))))
+before-known c =
+    let j = c .before .before in
+    judged-before (take (long-of j) (later-of j)) (j .judge-table .result) _ (j .judge-table .last .1 .0) (j .judge-table .ensures) (right c)
+
+judge-table-requires : tie.Need-judge-table-requires
+judge-table-requires c κs = refl
 
 refused-requires-2 : tie.Need-refused-requires-2
 refused-requires-2 c κs = search needs
@@ -57,15 +105,12 @@ same-length c = search needs
 
 returns-2 : tie.Need-returns-2
 returns-2 c =
-    let a = c .before .before .before .before .before .before .before .before .before .before .before .before .before .before .before .before .before .before .args in
-    let both = zero-accepted (c .before .before .before .before .before .before .before .before .before .before .before .verdict-of-both .result) (bothVerdict (a .base .now) (a .patch .now)) (c .before .before .before .before .before .before .before .before .before .before .before .verdict-of-both .ensures) (c .before .before .before .before .before .before .before .before .before .if1 .left) in
-    let made = c .before .before .before .before .before .before .before .write-outcome .ensures in
-    let n = c .before .before .before .before .before .before .before .write-outcome .result in
-    let later = c .before .before .before .before .before .before .before .write-outcome .last .1 .1 .0 in
-    let refused : accepted (tableVerdict (take n later)) ≡ false = other-refused _ _ (c .before .before .before .table-verdict .ensures) (c .before .if2 .taken) in
-    let broken = refused-broken (a .base .now) (a .patch .now) both n (a .space .now) later made refused in
+    let j = c .before .before .before in
+    let image = take (long-of j) (later-of j) in
+    let refused : accepted (tableVerdict image) ≡ false = other-refused _ _ (j .judge-table .ensures .verdict) (c .before .if2 .taken) in
+    let broken = refused-broken (base-of j) (patch-of j) (both j) (long-of j) (space-of j) (later-of j) (made j) refused in
     rw (c .refused2 .ensures)
-    (patch-refused (a .base .now) (a .patch .now) (a .map .now) (a .room .now) (a .carried .now) (refusal 10 0) (call-broken (a .base .now) (a .patch .now) (a .map .now) (a .room .now) (a .carried .now) both broken) refl)
+    (patch-refused (base-of j) (patch-of j) (map-of j) (room-of j) (carried-of j) (refusal 10 0) (call-broken (base-of j) (patch-of j) (map-of j) (room-of j) (carried-of j) (both j) broken) refl)
 
 is-short-requires : tie.Need-is-short-requires
 is-short-requires c κs = search needs
@@ -78,30 +123,29 @@ same-length-2 c = search needs
 
 returns-3 : tie.Need-returns-3
 returns-3 c =
-    let a = c .before .before .before .before .before .before .before .before .before .before .before .before .before .before .before .before .before .before .before .before .args in
-    let both = zero-accepted (c .before .before .before .before .before .before .before .before .before .before .before .before .before .verdict-of-both .result) (bothVerdict (a .base .now) (a .patch .now)) (c .before .before .before .before .before .before .before .before .before .before .before .before .before .verdict-of-both .ensures) (c .before .before .before .before .before .before .before .before .before .before .before .if1 .left) in
-    let made = c .before .before .before .before .before .before .before .before .before .write-outcome .ensures in
-    let n = c .before .before .before .before .before .before .before .before .before .write-outcome .result in
-    let later = c .before .before .before .before .before .before .before .before .before .write-outcome .last .1 .1 .0 in
-    let right = zero-accepted (c .before .before .before .before .before .table-verdict .result) (tableVerdict (take n later)) (c .before .before .before .before .before .table-verdict .ensures) (c .before .before .before .if2 .left) in
-    let whole = accepted-whole (a .base .now) (a .patch .now) both n (a .space .now) later made right in
-    let short : isShort (a .base .now) (a .patch .now) (a .map .now) (a .room .now) (a .carried .now) ≡ true = rw (← accepted-length (a .base .now) (a .patch .now) both n (a .space .now) later made right) (sym (c .before .before .is-short .ensures) ∙ c .before .if3 .taken) in
+    let e = c .before .before .before in
+    let j = e .before .before in
+    let whole = accepted-whole (base-of j) (patch-of j) (both j) (long-of j) (space-of j) (later-of j) (made j) (right e) in
+    let short : isShort (base-of j) (patch-of j) (map-of j) (room-of j) (carried-of j) ≡ true = rw (← accepted-length (base-of j) (patch-of j) (both j) (long-of j) (space-of j) (later-of j) (made j) (right e)) (sym (c .before .before .is-short .ensures) ∙ c .before .if3 .taken) in
     rw (c .refused3 .ensures)
-    (patch-refused (a .base .now) (a .patch .now) (a .map .now) (a .room .now) (a .carried .now) (refusal 11 0) (call-short (a .base .now) (a .patch .now) (a .map .now) (a .room .now) (a .carried .now) both whole short) refl)
+    (patch-refused (base-of j) (patch-of j) (map-of j) (room-of j) (carried-of j) (refusal 11 0) (call-short (base-of j) (patch-of j) (map-of j) (room-of j) (carried-of j) (both j) whole short) refl)
+
+carry-map-requires : tie.Need-carry-map-requires
+carry-map-requires c κs =
+    let e = c .before .before in
+    let j = e .before .before in
+    ((both-table (base-of j) (patch-of j) (both j), right e), (accepted-records (base-of j) (patch-of j) (both j) (long-of j) (space-of j) (later-of j) (made j) (right e), (before-known e, patch-held (patch-of j) (both-patch (base-of j) (patch-of j) (both j)))))
 
 write-rooms-requires : tie.Need-write-rooms-requires
 write-rooms-requires c κs =
-    let a = c .before .before .before .before .before .before .before .before .before .before .before .before .before .before .before .before .before .before .before .before .before .args in
-    let both = zero-accepted (c .before .before .before .before .before .before .before .before .before .before .before .before .before .before .verdict-of-both .result) (bothVerdict (a .base .now) (a .patch .now)) (c .before .before .before .before .before .before .before .before .before .before .before .before .before .before .verdict-of-both .ensures) (c .before .before .before .before .before .before .before .before .before .before .before .before .if1 .left) in
-    let made = c .before .before .before .before .before .before .before .before .before .before .write-outcome .ensures in
-    let n = c .before .before .before .before .before .before .before .before .before .before .write-outcome .result in
-    let later = c .before .before .before .before .before .before .before .before .before .before .write-outcome .last .1 .1 .0 in
-    let right = zero-accepted (c .before .before .before .before .before .before .table-verdict .result) (tableVerdict (take n later)) (c .before .before .before .before .before .before .table-verdict .ensures) (c .before .before .before .before .if2 .left) in
-    let enough : (ltb (length (a .map .now)) 64 || (ltb (length (a .carried .now)) 64 || ltb (length (a .room .now)) n)) ≡ false = sym (c .before .before .before .is-short .ensures) ∙ c .before .before .if3 .left in
-    let rooms = neither-second (ltb (length (a .map .now)) 64) _ enough in
-    let carried = ltb-false (length (a .carried .now)) 64 (neither-first (ltb (length (a .carried .now)) 64) _ rooms) in
-    let room = ltb-false (length (a .room .now)) n (neither-second (ltb (length (a .carried .now)) 64) _ rooms) in
-    ((both-table (a .base .now) (a .patch .now) both, right), (accepted-records (a .base .now) (a .patch .now) both n (a .space .now) later made right, ((omega (arith, length-take-le n later (made .inside)), carried), patch-held (a .patch .now) (both-patch (a .base .now) (a .patch .now) both))))
+    let e = c .before .before .before .before .before in
+    let j = e .before .before in
+    let n = long-of j in
+    let enough : (ltb (length (map-of j)) 64 || (ltb (length (carried-of j)) 64 || ltb (length (room-of j)) n)) ≡ false = sym (c .before .before .before .before .is-short .ensures) ∙ c .before .before .before .if3 .left in
+    let rooms = neither-second (ltb (length (map-of j)) 64) _ enough in
+    let carried = ltb-false (length (carried-of j)) 64 (neither-first (ltb (length (carried-of j)) 64) _ rooms) in
+    let room = ltb-false (length (room-of j)) n (neither-second (ltb (length (carried-of j)) 64) _ rooms) in
+    (table-long (take n (later-of j)) (right e), omega (arith, length-take-le n (later-of j) (made j .inside)), carried)
 
 same-length-3 : tie.Need-same-length-3
 same-length-3 c = search needs
@@ -114,22 +158,20 @@ same-length-5 c = search needs
 
 returns-4 : tie.Need-returns-4
 returns-4 c =
-    let a = c .before .before .before .before .before .before .before .before .before .before .before .before .before .before .before .before .before .before .before .before .before .before .before .before .before .before .args in
-    let both = zero-accepted (c .before .before .before .before .before .before .before .before .before .before .before .before .before .before .before .before .before .before .before .verdict-of-both .result) (bothVerdict (a .base .now) (a .patch .now)) (c .before .before .before .before .before .before .before .before .before .before .before .before .before .before .before .before .before .before .before .verdict-of-both .ensures) (c .before .before .before .before .before .before .before .before .before .before .before .before .before .before .before .before .before .if1 .left) in
-    let made = c .before .before .before .before .before .before .before .before .before .before .before .before .before .before .before .write-outcome .ensures in
-    let n = c .before .before .before .before .before .before .before .before .before .before .before .before .before .before .before .write-outcome .result in
-    let later = c .before .before .before .before .before .before .before .before .before .before .before .before .before .before .before .write-outcome .last .1 .1 .0 in
-    let right = zero-accepted (c .before .before .before .before .before .before .before .before .before .before .before .table-verdict .result) (tableVerdict (take n later)) (c .before .before .before .before .before .before .before .before .before .before .before .table-verdict .ensures) (c .before .before .before .before .before .before .before .before .before .if2 .left) in
-    let whole = accepted-whole (a .base .now) (a .patch .now) both n (a .space .now) later made right in
-    let image = accepted-image (a .base .now) (a .patch .now) both n (a .space .now) later made right in
-    let long = accepted-length (a .base .now) (a .patch .now) both n (a .space .now) later made right in
-    let enough : isShort (a .base .now) (a .patch .now) (a .map .now) (a .room .now) (a .carried .now) ≡ false = rw (← long) (sym (c .before .before .before .before .before .before .before .before .is-short .ensures) ∙ c .before .before .before .before .before .before .before .if3 .left) in
-    let call = patch-accepted (a .base .now) (a .patch .now) (a .map .now) (a .room .now) (a .carried .now) (call-fine (a .base .now) (a .patch .now) (a .map .now) (a .room .now) (a .carried .now) both whole enough) in
+    let e = c .before .before .before .before .before .before .before .before .before .before in
+    let j = e .before .before in
+    let n = long-of j in
+    let whole = accepted-whole (base-of j) (patch-of j) (both j) n (space-of j) (later-of j) (made j) (right e) in
+    let image = accepted-image (base-of j) (patch-of j) (both j) n (space-of j) (later-of j) (made j) (right e) in
+    let long = accepted-length (base-of j) (patch-of j) (both j) n (space-of j) (later-of j) (made j) (right e) in
+    let enough : isShort (base-of j) (patch-of j) (map-of j) (room-of j) (carried-of j) ≡ false = rw (← long) (sym (c .before .before .before .before .before .before .before .before .before .is-short .ensures) ∙ c .before .before .before .before .before .before .before .before .if3 .left) in
+    let call = patch-accepted (base-of j) (patch-of j) (map-of j) (room-of j) (carried-of j) (call-fine (base-of j) (patch-of j) (map-of j) (room-of j) (carried-of j) (both j) whole enough) in
+    let found = c .before .before .before .before .before .before .before .carry-map .ensures in
     let written = c .before .before .before .before .write-rooms .ensures in
     record {
-      answered = written .0 ∙ ap (patchAccepted (touchedCount (records (a .base .now)) (records (a .patch .now)))) (length-take-le n later (made .inside) ∙ long) ∙ call .answered;
-      written = written .1 .0 ∙ ap (λ (values : List ℕ). over values (a .room .now)) image ∙ call .written;
-      carried = written .1 .1 ∙ call .carried;
+      answered = written .0 ∙ ap (λ (tasks : ℕ). patchAccepted tasks (length (take n (later-of j)))) (found .touched) ∙ ap (patchAccepted (touchedCount (records (base-of j)) (records (patch-of j)))) (length-take-le n (later-of j) (made j .inside) ∙ long) ∙ call .answered;
+      written = written .1 .0 ∙ ap (λ (values : List ℕ). over values (room-of j)) image ∙ call .written;
+      carried = written .1 .1 ∙ ap (λ (rows : List ℕ). over rows (carried-of j)) (found .map) ∙ call .carried;
     }
 
 pub apply-in-spec : {M : Type 1} → statement M
@@ -142,7 +184,7 @@ apply-in-spec =
     write-outcome-requires
     slice-reshare-prefix-image
     slice-aggregate-image
-    table-verdict-requires
+    judge-table-requires
     refused-requires-2
     same-length
     returns-2
@@ -150,6 +192,7 @@ apply-in-spec =
     refused-requires-3
     same-length-2
     returns-3
+    carry-map-requires
     write-rooms-requires
     same-length-3
     same-length-4

@@ -8,10 +8,10 @@ use Rattle.patch.proofs.carried.carried_row.Statement.{statement}
 use Rattle.patch.proofs.carried.carried_row.Tie as tie
 
 abbrev Inv-loop : tie.InvT-loop
-Inv-loop columns count bars touched old before i bits₀ j₀ bits j = Chosen (cellCarried columns bars touched old before i) count j bits
+Inv-loop columns count bars touched old row i bits₀ j₀ bits j = Chosen (cellCarried columns bars touched old row i) count j bits
 
 abbrev μ-loop : tie.MeasureT-loop
-μ-loop columns count bars touched old before i bits₀ j₀ bits j = count - j
+μ-loop columns count bars touched old row i bits₀ j₀ bits j = count - j
 
 loop-holds : tie.Need-loop-holds Inv-loop μ-loop
 loop-holds c = chosen-none

@@ -34,14 +34,14 @@ returns c =
     let a = c .before .before .before .before .before .args in
     c .decided-row .ensures ∙ row-decided (a .count) (a .columns .now) (a .bars) (a .touched) (a .old .now) (a .rows .now) (a .i) (sym (c .before .before .is-set .ensures) ∙ c .before .if1 .taken)
 
-mul-row-before : tie.Need-mul-row-before
-mul-row-before c = search needs
+mul-base-row : tie.Need-mul-base-row
+mul-base-row c = search needs
 
-shared-slice-read-row-before : tie.Need-shared-slice-read-row-before
-shared-slice-read-row-before c = search needs
+shared-slice-read-base-row : tie.Need-shared-slice-read-base-row
+shared-slice-read-base-row c = search needs
 
-row-before-requires : tie.Need-row-before-requires
-row-before-requires c κs = search needs
+base-row-requires : tie.Need-base-row-requires
+base-row-requires c κs = search needs
 
 carried-row-requires : tie.Need-carried-row-requires
 carried-row-requires c κs = search needs
@@ -51,7 +51,7 @@ returns-2 c =
     let left = c .before .before .before in
     let a = left .before .before .before .before .args in
     c .carried-row .ensures
-    ∙ rw (c .before .row-before .ensures)
+    ∙ rw (c .before .base-row .ensures)
     (row-carried (a .count) (a .columns .now) (a .bars) (a .touched) (a .old .now) (a .rows .now) (a .i) (sym (left .before .is-set .ensures) ∙ left .if1 .left))
 
 pub new-row-spec : {M : Type 1} → statement M
@@ -61,8 +61,8 @@ new-row-spec =
     is-set-requires
     decided-row-requires
     returns
-    mul-row-before
-    shared-slice-read-row-before
-    row-before-requires
+    mul-base-row
+    shared-slice-read-base-row
+    base-row-requires
     carried-row-requires
     returns-2)

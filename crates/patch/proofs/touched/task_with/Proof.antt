@@ -3,10 +3,7 @@ use Prim.Native.Nat.{_<_}
 use mathlib.Core.Path.{sym, _∙_}
 use native.Mathlib.Omega.{arith}
 use borrow.Author.Needs.{needs}
-use lib.Dec.{eqb}
-use lib.ListN.{getD}
-use Rattle.rules.proofs.Numbers.{lowest-le}
-use Rattle.patch.proofs.Touching.{marks-place, marks-absent}
+use Rattle.patch.proofs.Touching.{place-inside, marks-place, marks-absent}
 use Rattle.patch.proofs.touched.task_with.Statement.{statement}
 use Rattle.patch.proofs.touched.task_with.Tie as tie
 
@@ -14,7 +11,7 @@ use Rattle.patch.proofs.touched.task_with.Tie as tie
 place-below : (c : tie.Else1) → c .before .place-of .result < c .before .before .before .args .count
 place-below c =
     let a = c .before .before .before .args in
-    omega (arith, c .before .place-of .ensures, lowest-le (λ k. eqb (getD (a .ids .now) k 0) (a .id)) (a .count))
+    place-inside (a .ids .now) (a .count) (a .id) (c .before .place-of .result) (c .before .place-of .ensures) (c .if1 .left)
 
 place-of-requires : tie.Need-place-of-requires
 place-of-requires c κs = search needs

@@ -1,7 +1,7 @@
 -- The checks in their order: the table, then the two ids.
 use mathlib.Core.Bool.{true}
 use mathlib.Core.Logic.{⊎-elim}
-use mathlib.Core.Path.{_≡_, ap, sym, _∙_}
+use mathlib.Core.Path.{_≡_, refl, ap, sym, _∙_}
 use native.Mathlib.Omega.{arith}
 use borrow.Author.Tests.{eqb-true, eqb-false}
 use borrow.Author.Needs.{needs}
@@ -9,33 +9,43 @@ use Rattle.rules.specs.declared.Reason.{Reason}
 use Rattle.rules.specs.Reasons.{told}
 use Rattle.rules.specs.Refusals.{accepted, tableVerdict}
 use Rattle.rules.specs.Calls.{reasonRefusal}
-use Rattle.rules.proofs.Refusals.{zero-accepted, other-refused}
+use Rattle.rules.specs.Blocks.{records}
+use Rattle.rules.proofs.Refusals.{other-refused}
+use Rattle.table.specs.Precedence.{beforeMap}
+use Rattle.table.proofs.Judging.{judged-accepted, judged-before}
 use Rattle.table.proofs.Counts.{count-asked}
 use Rattle.reason.proofs.Calls.{reason-refused, Found, low-unlisted, high-unlisted, both-within, reason-told}
 use Rattle.reason.proofs.call.find_reason.Statement.{statement}
 use Rattle.reason.proofs.call.find_reason.Tie as tie
 
--- the table was accepted
-right : (c : tie.Else1) → accepted (tableVerdict (c .before .before .before .before .args .image .now)) ≡ true
-right c = zero-accepted _ _ (c .before .before .table-verdict .ensures) (c .if1 .left)
+-- the table was accepted, and it is known which of its tasks come before which
+right : (c : tie.Else1) → accepted (tableVerdict (c .before .before .before .before .before .args .image .now)) ≡ true
+right c =
+    let judged = c .before .before .judge-table in
+    judged-accepted (c .before .before .before .before .before .args .image .now) (judged .result) _ (judged .last .1 .0) (judged .ensures) (c .if1 .left)
 
-table-verdict-requires : tie.Need-table-verdict-requires
-table-verdict-requires c κs = search needs
+before-known : (c : tie.Else1) → c .before .before .judge-table .last .1 .0 ≡ beforeMap (records (c .before .before .before .before .before .args .image .now))
+before-known c =
+    let judged = c .before .before .judge-table in
+    judged-before (c .before .before .before .before .before .args .image .now) (judged .result) _ (judged .last .1 .0) (judged .ensures) (right c)
+
+judge-table-requires : tie.Need-judge-table-requires
+judge-table-requires c κs = refl
 
 refused-requires : tie.Need-refused-requires
 refused-requires c κs = search needs
 
 returns : tie.Need-returns
 returns c =
-    let a = c .before .before .before .before .before .args in
-    let verdict = c .before .before .before .table-verdict in
+    let a = c .before .before .before .before .before .before .args in
+    let verdict = c .before .before .before .judge-table .ensures .verdict in
     c .refused .ensures
-    ∙ ap reasonRefusal (verdict .ensures)
-    ∙ sym (reason-refused (a .image .now) (a .low) (a .high) (other-refused _ _ (verdict .ensures) (c .before .if1 .taken)))
+    ∙ ap reasonRefusal verdict
+    ∙ sym (reason-refused (a .image .now) (a .low) (a .high) (other-refused _ _ verdict (c .before .if1 .taken)))
 
 count-kind-requires : tie.Need-count-kind-requires
 count-kind-requires c κs =
-    let image = c .before .before .before .before .args .image .now in
+    let image = c .before .before .before .before .before .args .image .now in
     count-asked image (right c) _ (omega arith)
 
 task-place-requires : tie.Need-task-place-requires
@@ -45,7 +55,7 @@ task-place-requires-2 : tie.Need-task-place-requires-2
 task-place-requires-2 c κs = right (c .before .before)
 
 -- the two ids were looked for
-found : (c : tie.After-task-place2) → Found (c .before .before .before .before .before .before .before .args .image .now) (c .before .before .before .before .before .before .before .args .low) (c .before .before .before .before .before .before .before .args .high) (c .before .task-place .result) (c .task-place2 .result) (c .before .before .count-kind .result)
+found : (c : tie.After-task-place2) → Found (c .before .before .before .before .before .before .before .before .args .image .now) (c .before .before .before .before .before .before .before .before .args .low) (c .before .before .before .before .before .before .before .before .args .high) (c .before .task-place .result) (c .task-place2 .result) (c .before .before .count-kind .result)
 found c =
     record {
       right = right (c .before .before .before);
@@ -65,15 +75,16 @@ returns-2 c =
 
 reason-at-requires : tie.Need-reason-at-requires
 reason-at-requires c κs =
-    let places = found (c .before .before) in
-    (places .right, both-within _ _ _ _ _ _ places (c .before .if2 .left) (eqb-false _ _ (c .if3 .left)))
+    let listed = c .before in
+    let places = found (listed .before .before) in
+    (places .right, (before-known (listed .before .before .before .before .before), both-within _ _ _ _ _ _ places (listed .before .if2 .left) (eqb-false _ _ (listed .if3 .left))))
 
 number-of-requires : tie.Need-number-of-requires
 number-of-requires c κs = search needs
 
 returns-3 : tie.Need-returns-3
 returns-3 c =
-    let listed = c .before .before in
+    let listed = c .before .before .before in
     let answer = reason-told _ _ _ _ _ _ (found (listed .before .before)) (listed .before .if2 .left) (eqb-false _ _ (listed .if3 .left)) in
     rw (c .number-of .ensures ∙ ap (λ (r : Reason). told r .number) (c .before .reason-at .ensures)) (sym answer)
 
@@ -81,7 +92,7 @@ pub find-reason-spec : {M : Type 1} → statement M
 find-reason-spec =
     tie.close
     (tie.spec
-    table-verdict-requires
+    judge-table-requires
     refused-requires
     returns
     count-kind-requires

@@ -1,105 +1,116 @@
--- The loop keeps that no pair passed forbids it; the pairs stand behind transactions and tasks.
-use Prim.Native.Nat.{ℕ, _+_, _-_, _≤_}
-use mathlib.Core.Bool.{Bool}
-use mathlib.Core.List.{List, []}
+-- The rows tell whether one comes before the other, and the pairs whether a one-way pair forbids it.
+use Prim.Native.Nat.{ℕ, _≤_}
+use mathlib.Core.List.{List}
+use mathlib.Core.Bool.{Bool, true, false, _||_, or-true, or-false}
 use mathlib.Core.Path.{_≡_, ap, sym, _∙_}
 use native.Mathlib.Omega.{arith}
-use borrow.Author.Needs.{needs}
-use lib.ListN.{length, getD}
-use Rattle.rules.specs.Numbers.{lowest}
-use Rattle.rules.specs.Blocks.{records, recordAt}
-use Rattle.rules.specs.Records.{pairs}
-use Rattle.rules.specs.Preempt.{bars, barred}
-use Rattle.rules.proofs.Numbers.{lowest-zero, lowest-more, some-true, some-false}
+use Rattle.rules.specs.Blocks.{records}
+use Rattle.rules.specs.Records.{taskCount}
+use Rattle.rules.specs.Preempt.{paired, comesBefore, barred, cell}
 use Rattle.table.proofs.Counts.{count-asked}
-use Rattle.preempt.proofs.Accepted.{shape, record-whole, pair-record}
+use Rattle.table.proofs.Closed.{before-cell}
+use Rattle.preempt.proofs.Accepted.{shape}
 use Rattle.reason.proofs.pairs.is_barred.Statement.{statement}
 use Rattle.reason.proofs.pairs.is_barred.Tie as tie
 
--- whether pair k forbids it
-abbrev forbids : List ℕ → ℕ → ℕ → ℕ → Bool
-forbids image low high k = bars (getD (pairs (records image)) k []) low high
+-- what is barred, where one comes before the other, and where neither does
+module _ (rs : List (List ℕ)) (a b : ℕ) where
+  barred-before : comesBefore rs a b ≡ true → barred rs a b ≡ true
+  unfolding barred
+  barred-before h = rw h (or-true (paired 0 rs a b))
 
-abbrev Inv-loop : tie.InvT-loop
-Inv-loop image first low high count k₀ k = (k ≤ count) × (lowest (forbids image low high) k ≡ k)
+  barred-after : comesBefore rs b a ≡ true → barred rs a b ≡ true
+  unfolding barred
+  barred-after h = ap (λ (x : Bool). paired 0 rs a b || (comesBefore rs a b || x)) h ∙ ap (λ (x : Bool). paired 0 rs a b || x) (or-true (comesBefore rs a b)) ∙ or-true (paired 0 rs a b)
 
-abbrev μ-loop : tie.MeasureT-loop
-μ-loop image first low high count k₀ k = count - k
+  barred-pair : comesBefore rs a b ≡ false → comesBefore rs b a ≡ false → barred rs a b ≡ paired 0 rs a b
+  unfolding barred
+  barred-pair p q = rw (p, q) (or-false (paired 0 rs a b))
 
-count-kind-requires : tie.Need-count-kind-requires Inv-loop μ-loop
-count-kind-requires c κs =
+-- there are at most 64 tasks
+few : (c : tie.After-shared-slice-known) → taskCount (records (c .before .args .image .now)) ≤ 64
+few c = shape (c .before .args .image .now) (c .shared-slice-known .given) (c .before .pre .0) .few-tasks
+
+-- what the rows say of the two, by their ids
+before-asked : (c : tie.After-shared-slice-known) → cell (c .before .args .before .now) (c .before .args .i) (c .before .args .j) ≡ comesBefore (records (c .before .args .image .now)) (c .before .args .low) (c .before .args .high)
+before-asked c =
     let start = c .before in
-    count-asked (start .args .image .now) (start .pre .0) _ (omega arith)
+    let rs = records (start .args .image .now) in
+    let places = start .pre .1 .1 .0 in
+    let ids = start .pre .1 .1 .1 in
+    rw (ids .0, ids .1) (before-cell rs (start .args .before .now) (few c) (start .pre .1 .0) (start .args .i) (start .args .j) (places .0) (places .1))
 
--- what was asked of a record was asked of pair k
-asked : (c : tie.After-bars Inv-loop μ-loop)
-    → c .bars .result ≡ forbids (c .before .before .before .before .before .before .args .image .now) (c .before .before .before .before .before .before .args .low) (c .before .before .before .before .before .before .args .high) (c .before .before .before .loop .k)
-asked c =
-    let start = c .before .before .before .before .before .before in
-    let image = start .args .image .now in
-    let k = c .before .before .before .loop .k in
-    let stands = pair-record image (c .before .before .before .before .before .shared-slice-known .given) (start .pre .0) k (omega (arith, c .before .before .before .before .count-kind .ensures .0)) in
-    c .bars .ensures
-    ∙ ap (λ (r : List ℕ). bars r (start .args .low) (start .args .high)) (c .before .record-at .ensures ∙ ap (λ (n : ℕ). recordAt image (n + k)) (start .pre .1) ∙ stands)
+after-asked : (c : tie.After-shared-slice-known) → cell (c .before .args .before .now) (c .before .args .j) (c .before .args .i) ≡ comesBefore (records (c .before .args .image .now)) (c .before .args .high) (c .before .args .low)
+after-asked c =
+    let start = c .before in
+    let rs = records (start .args .image .now) in
+    let places = start .pre .1 .1 .0 in
+    let ids = start .pre .1 .1 .1 in
+    rw (ids .0, ids .1) (before-cell rs (start .args .before .now) (few c) (start .pre .1 .0) (start .args .j) (start .args .i) (places .1) (places .0))
 
-loop-holds : tie.Need-loop-holds Inv-loop μ-loop
-loop-holds c = (omega arith, lowest-zero _)
+mul-is-set : tie.Need-mul-is-set
+mul-is-set c = omega (arith, c .before .pre .1 .1 .0 .0, few c)
 
-add-record-at : tie.Need-add-record-at Inv-loop μ-loop
-add-record-at c =
-    let start = c .before .before .before .before in
-    let few = shape (start .args .image .now) (c .before .before .before .shared-slice-known .given) (start .pre .0) in
-    record { fits = omega (arith, start .pre .1, c .before .before .count-kind .ensures .0, few .few-transactions, few .few-tasks, few .few-pairs) }
+element-copy-out-is-set : tie.Need-element-copy-out-is-set
+element-copy-out-is-set c = omega (arith, c .before .pre .1 .1 .0 .0, few c)
 
-record-at-requires : tie.Need-record-at-requires Inv-loop μ-loop
-record-at-requires c κs =
-    let start = c .before .before .before .before in
-    record-whole (start .args .image .now) (c .before .before .before .shared-slice-known .given) (start .pre .0) (start .args .first + c .before .loop .k) (omega (arith, start .pre .1, c .before .before .count-kind .ensures .0))
+is-set-requires : tie.Need-is-set-requires
+is-set-requires c κs = omega (arith, c .before .before .pre .1 .1 .0 .1, few (c .before))
 
-bars-requires : tie.Need-bars-requires Inv-loop μ-loop
-bars-requires c κs = search needs
-
-returns : tie.Need-returns Inv-loop μ-loop
-unfolding barred
+returns : tie.Need-returns
 returns c =
-    let start = c .before .before .before .before .before .before .before in
-    let test = forbids (start .args .image .now) (start .args .low) (start .args .high) in
-    let k = c .before .before .before .before .loop .k in
-    sym (some-true test (length (pairs (records (start .args .image .now)))) k (omega (arith, c .before .before .before .before .before .count-kind .ensures .0)) (sym (asked (c .before)) ∙ c .if1 .taken))
-
-add-k : tie.Need-add-k Inv-loop μ-loop
-add-k c = search needs
-
-loop-less : tie.Need-loop-less Inv-loop μ-loop
-loop-less c = search needs
-
-loop-again : tie.Need-loop-again Inv-loop μ-loop
-loop-again c =
-    let start = c .before .before .before .before .before .before .before in
-    let s = c .before .before .before .before .loop in
-    (omega arith, lowest-more (forbids (start .args .image .now) (start .args .low) (start .args .high)) (s .k) (s .inv .1) (sym (asked (c .before)) ∙ c .if1 .left))
-
-returns-2 : tie.Need-returns-2 Inv-loop μ-loop
-unfolding barred
-returns-2 c =
     let start = c .before .before .before .before in
-    let test = forbids (start .args .image .now) (start .args .low) (start .args .high) in
-    let end : c .before .loop .k ≡ length (pairs (records (start .args .image .now))) = omega (arith, c .before .before .count-kind .ensures .0) in
-    sym (some-false test (length (pairs (records (start .args .image .now)))) (rw end at (c .before .loop .inv .1)))
+    sym (barred-before (records (start .args .image .now)) (start .args .low) (start .args .high) (sym (before-asked (c .before .before .before)) ∙ sym (c .before .is-set .ensures) ∙ c .if1 .taken))
+
+mul-is-set-2 : tie.Need-mul-is-set-2
+mul-is-set-2 c = omega (arith, c .before .before .before .before .pre .1 .1 .0 .1, few (c .before .before .before))
+
+element-copy-out-is-set-2 : tie.Need-element-copy-out-is-set-2
+element-copy-out-is-set-2 c = omega (arith, c .before .before .before .before .pre .1 .1 .0 .1, few (c .before .before .before))
+
+is-set-requires-2 : tie.Need-is-set-requires-2
+is-set-requires-2 c κs = omega (arith, c .before .before .before .before .before .pre .1 .1 .0 .0, few (c .before .before .before .before))
+
+returns-2 : tie.Need-returns-2
+returns-2 c =
+    let start = c .before .before .before .before .before .before .before in
+    sym (barred-after (records (start .args .image .now)) (start .args .low) (start .args .high) (sym (after-asked (c .before .before .before .before .before .before)) ∙ sym (c .before .is-set2 .ensures) ∙ c .if2 .taken))
+
+count-kind-requires : tie.Need-count-kind-requires
+count-kind-requires c κs = count-asked (c .before .before .before .before .before .before .before .args .image .now) (c .before .before .before .before .before .before .before .pre .0) _ (omega arith)
+
+count-kind-requires-2 : tie.Need-count-kind-requires-2
+count-kind-requires-2 c κs = count-asked (c .before .before .before .before .before .before .before .before .args .image .now) (c .before .before .before .before .before .before .before .before .pre .0) _ (omega arith)
+
+add-first : tie.Need-add-first
+add-first c =
+    let s = shape (c .before .before .before .before .before .before .before .before .before .args .image .now) (c .before .before .before .before .before .before .before .before .shared-slice-known .given) (c .before .before .before .before .before .before .before .before .before .pre .0) in
+    record { fits = omega (arith, c .before .count-kind .ensures .0, c .count-kind2 .ensures .0, s .few-transactions, s .few-tasks) }
+
+is-forbidden-requires : tie.Need-is-forbidden-requires
+is-forbidden-requires c κs = (c .before .before .before .before .before .before .before .before .before .pre .0, omega (arith, c .before .count-kind .ensures .0, c .count-kind2 .ensures .0))
+
+returns-3 : tie.Need-returns-3
+returns-3 c =
+    let start = c .before .before .before .before .before .before .before .before .before .before in
+    let first : comesBefore (records (start .args .image .now)) (start .args .low) (start .args .high) ≡ false = sym (before-asked (c .before .before .before .before .before .before .before .before .before)) ∙ sym (c .before .before .before .before .before .before .before .is-set .ensures) ∙ c .before .before .before .before .before .before .if1 .left in
+    let second : comesBefore (records (start .args .image .now)) (start .args .high) (start .args .low) ≡ false = sym (after-asked (c .before .before .before .before .before .before .before .before .before)) ∙ sym (c .before .before .before .before .is-set2 .ensures) ∙ c .before .before .before .if2 .left in
+    c .is-forbidden .ensures ∙ sym (barred-pair (records (start .args .image .now)) (start .args .low) (start .args .high) first second)
 
 pub is-barred-spec : {M : Type 1} → statement M
 is-barred-spec =
     tie.close
     (tie.spec
-    Inv-loop
-    μ-loop
-    count-kind-requires
-    loop-holds
-    add-record-at
-    record-at-requires
-    bars-requires
+    mul-is-set
+    element-copy-out-is-set
+    is-set-requires
     returns
-    add-k
-    loop-less
-    loop-again
-    returns-2)
+    mul-is-set-2
+    element-copy-out-is-set-2
+    is-set-requires-2
+    returns-2
+    count-kind-requires
+    count-kind-requires-2
+    add-first
+    is-forbidden-requires
+    returns-3)

@@ -2,8 +2,8 @@
 use mathlib.Core.Path.{_≡_, sym}
 use lib.ListN.{getD, List·getD-eq-default}
 use borrow.Author.Needs.{needs}
-use Rattle.patch.proofs.carried.row_before.Statement.{statement}
-use Rattle.patch.proofs.carried.row_before.Tie as tie
+use Rattle.patch.proofs.carried.base_row.Statement.{statement}
+use Rattle.patch.proofs.carried.base_row.Tie as tie
 
 returns : tie.Need-returns
 returns c =
@@ -20,5 +20,5 @@ shared-slice-read-result c = search needs
 returns-2 : tie.Need-returns-2
 returns-2 c = search needs
 
-pub row-before-spec : {M : Type 1} → statement M
-row-before-spec = tie.close (tie.spec returns mul-result shared-slice-read-result returns-2)
+pub base-row-spec : {M : Type 1} → statement M
+base-row-spec = tie.close (tie.spec returns mul-result shared-slice-read-result returns-2)
