@@ -14,7 +14,7 @@
  *
  *                           x86-64       Arm
  *     siodlomil_map            6,328     6,368
- *     siodlomil_bounds        50,824    47,696
+ *     siodlomil_bounds        49,496    46,336
  *     siodlomil_reason         1,680     1,520
  *     siodlomil_patch         37,912    37,936
  *     siodlomil_reverse       21,792    21,776

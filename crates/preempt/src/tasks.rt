@@ -5,7 +5,7 @@ ghost use mathlib.Core.List.{[]};
 ghost use Prim.Native.Nat.{_<_};
 ghost use lib.ListN.{length, getD};
 ghost use Rattle.rules.specs.Blocks.{records};
-ghost use Rattle.rules.specs.Records.{jitterOf, thresholdOf, taskOf, transactions, tasks, taskCount, periodIn, periodAt};
+ghost use Rattle.rules.specs.Records.{jitterOf, thresholdOf, taskOf, transactions, tasks, taskCount, placeOf, periodIn, periodAt};
 ghost use Rattle.rules.specs.Refusals.{accepted, tableVerdict};
 ghost use Rattle.preempt.specs.Tasks.{TasksRead};
 use crate::columns::Columns;
@@ -84,6 +84,16 @@ pub fn task_at(image: &[u8], first: usize, place: usize, period: u32) -> Task
     ensures { λ r. ⌜ r ≡ taskOf period (getD (tasks (records (now (image .entry)))) place []) ⌝ }
 {
     task_of(period, task_record(image, first, place))
+}
+
+// The place of the task with this id, or the number of tasks where it is not listed.
+pub fn task_place(image: &[u8], id: u32) -> usize
+    requires { ⌜ accepted (tableVerdict (now image)) ≡ true ⌝ }
+    ensures { λ r. ⌜ r ≡ placeOf (tasks (records (now (image .entry)))) id ⌝ }
+{
+    let first = count_kind(image, 1);
+    let count = count_kind(image, 2);
+    place_from(image, first, count, id)
 }
 
 // The period of the transaction with this number, of the count that a table has, or 0 where it is not listed.

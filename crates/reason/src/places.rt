@@ -3,7 +3,7 @@ ghost use mathlib.Core.Path.{_≡_};
 ghost use mathlib.Core.Bool.{true};
 ghost use Prim.Native.Nat.{_<_};
 ghost use Rattle.rules.specs.Blocks.{records};
-ghost use Rattle.rules.specs.Records.{tasks, taskCount, placeOf};
+ghost use Rattle.rules.specs.Records.{taskCount};
 ghost use Rattle.rules.specs.Preempt.{reasonAt};
 ghost use Rattle.rules.specs.Refusals.{accepted, tableVerdict};
 ghost use Rattle.table.specs.Precedence.{beforeMap};
@@ -13,17 +13,6 @@ use preempt::tasks::period_at;
 use preempt::tasks::task_at;
 use rules::Reason;
 use table::count::count_kind;
-use table::place::place_from;
-
-// The place of the task with this id, or the number of tasks where it is not listed.
-pub fn task_place(image: &[u8], id: u32) -> usize
-    requires { ⌜ accepted (tableVerdict (now image)) ≡ true ⌝ }
-    ensures { λ r. ⌜ r ≡ placeOf (tasks (records (now (image .entry)))) id ⌝ }
-{
-    let first = count_kind(image, 1);
-    let count = count_kind(image, 2);
-    place_from(image, first, count, id)
-}
 
 // Why the task at place i may be preempted by the one at place j, or why not, in an accepted table of whose tasks before says which
 // come before which.

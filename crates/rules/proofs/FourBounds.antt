@@ -44,9 +44,9 @@ pub figures-ordered : (rs : List (List ℕ)) (rows : List ℕ) (f : Figures) →
     → FiguresOf rs rows f → Ordered (boundsFound rs f)
 figures-ordered rs rows f climbing known right =
     let (c, path, heavy) = right .path .reached in (
-      chain≤path (taskCount rs) (related rs rows) (sizeAt rs) (f .path) (f .chain) (right .path) (right .chain .chain),
+      chain≤path (taskCount rs) (related rs rows) (sizeAt rs) (f .path) (f .chain) (right .path) (right .chain .among),
       omega (arith, path≤levels rs climbing rows c path, heavy, right .levels),
-      chain≤transactions rs rows (f .transactions) (f .chain) known (right .transactions) (right .chain .chain),
+      chain≤transactions rs rows (f .transactions) (f .chain) known (right .transactions) (right .chain .among),
     )
 
 -- always: chain <= path <= levels, and chain <= transactions

@@ -2,6 +2,7 @@
 use Prim.Native.Nat.{ℕ}
 use mathlib.Core.Bool.{Bool, true, false, _&&_, _||_, not}
 use mathlib.Core.Path.{_≡_, refl, sym}
+use mathlib.Core.Logic.{_⊎_, inl, inr}
 use borrow.Author.Tests.{eqb-true, eq-eqb, ltb-true, ltb-false, le-leb, lt-leb, not-false}
 use lib.Dec.{T, eqb, ltb, leb}
 use Rattle.rules.proofs.Numbers.{either, never}
@@ -74,3 +75,17 @@ both false b t = absurd t
 pub both-pass : (a b : Bool) → T a → T b → T (a && b)
 both-pass true b s t = t
 both-pass false b s t = s
+
+-- where one of two tests holds, it is the first or the second
+pub one-of : (a b : Bool) → T (a || b) → T a ⊎ T b
+one-of true b t = inl tt
+one-of false b t = inr t
+
+-- and where either holds, one of them does
+pub first-passes : (a b : Bool) → T a → T (a || b)
+first-passes true b t = tt
+first-passes false b t = absurd t
+
+pub second-passes : (a b : Bool) → T b → T (a || b)
+second-passes true b t = tt
+second-passes false b t = t

@@ -23,7 +23,7 @@ use Rattle.rules.specs.Patches.{outcome, reversed, touchedCount, patched
 use Rattle.rules.specs.Refusals.{accepted, orElse, tableVerdict, patchVerdict, absentRefusal, outcomeRefusal, shortRefusal, unlistedRefusal}
 
 -- a buffer with these values written over its start; what lies beyond them keeps its values
-abbrev pub over : List ℕ → List ℕ → List ℕ
+abbrev pub over : {A : Type 0} → List A → List A → List A
 over values buffer = values ++ drop (length values) buffer
 
 -- what a buffer holds after a call: written where the verdict accepts, as it was where it refuses

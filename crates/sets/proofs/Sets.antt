@@ -1,5 +1,6 @@
 -- Laws of sets of places, by a set's lowest bit and the set of the others, moved down by one.
 use Prim.Native.Nat.{ℕ, zero, suc, _-_, _/_, _%_, _^_, _≤_, _<_, min}
+use mathlib.Core.List.{List, [], _∷_}
 use mathlib.Core.Bool.{Bool, true, false, _&&_, _||_, not}
 use mathlib.Core.Path.{_≡_, refl, ap, sym, _∙_}
 use native.Mathlib.Nat.{pow-suc}
@@ -9,11 +10,13 @@ use lib.Dec.{eqb, ltb}
 use lib.Pow.{pow-pos}
 use lib.Bits.{bitOr, bitAnd, and-step, and-le-l}
 use lib.Count.{trailingZeros}
-use Rattle.rules.specs.Preempt.{bitAt}
+use lib.ListN.{getD}
+use Rattle.rules.specs.Preempt.{cell, bitAt}
+use Rattle.rules.specs.Chains.{Under, All}
 use Rattle.rules.proofs.Numbers.{either, never}
-use Rattle.rules.proofs.Tests.{both-first, both-second}
+use Rattle.rules.proofs.Tests.{both-first, both-second, T-true, true-T}
 use Rattle.rules.proofs.Bits.{bit-shift, bit-none, bit-and, bit-or, bit-of-power, bit-enough, bit-taken}
-use Rattle.sets.specs.Places.{Lowest, Without, Shared, Outside, Below}
+use Rattle.sets.specs.Places.{Lowest, Without, Shared, Outside, Below, Inside}
 
 -- a number is its bits
 pub bits-determined : (k a b : ℕ) → a < 2 ^ k → b < 2 ^ k → ((j : ℕ) → bitAt a j ≡ bitAt b j) → a ≡ b
@@ -109,6 +112,21 @@ below-has (suc count) (suc j) =
     (either (ltb j count)
     (λ t. below-has count j ∙ t ∙ sym (lt-ltb (suc j) (suc count) (omega (arith, ltb-true j count t))))
     (λ t. below-has count j ∙ t ∙ sym (le-ltb (suc j) (suc count) (omega (arith, ltb-false j count t)))))
+
+-- in the set of the places below count every place is below count
+pub below-inside : (count set : ℕ) → Below count set → Inside count set
+below-inside count set below j h = ltb-true j count (sym (below j) ∙ h)
+
+-- places of a set that are also in a row lie over the row's place, and are in the set
+pub shared-under : (n : ℕ) (rows : List ℕ) (set place narrower : ℕ) → Shared set (getD rows place 0) narrower
+    → (e : List ℕ) → All (bitAt narrower) e → Under n (cell rows) place e × All (bitAt set) e
+shared-under n rows set place narrower meet [] all = (tt, tt)
+shared-under n rows set place narrower meet (j ∷ e) all =
+    let h = sym (meet j) ∙ T-true (bitAt narrower j) (all .0) in
+    let (under, wider) = shared-under n rows set place narrower meet e (all .1) in (
+      (true-T (cell rows place j) (both-second (bitAt set j) (cell rows place j) h), under),
+      (true-T (bitAt set j) (both-first (bitAt set j) (cell rows place j) h), wider),
+    )
 
 -- a place of the smaller set is one of the set, and another one than the place taken out
 pub without-inside : (a i b : ℕ) → Without a i b → (j : ℕ) → bitAt b j ≡ true → (bitAt a j ≡ true) × (j ≡ i → ⊥)

@@ -1,7 +1,7 @@
 -- The answers of a bound call: refused by the table, by a short map or room, or found.
 use Prim.Native.Nat.{ℕ, _≤_, _<_}
-use mathlib.Core.List.{List, [], _∷_}
-use mathlib.Core.Bool.{true, false, _||_}
+use mathlib.Core.List.{List}
+use mathlib.Core.Bool.{Bool, true, false, _||_}
 use mathlib.Core.Path.{_≡_, refl, sym, ap, _∙_}
 use native.Mathlib.Omega.{arith}
 use borrow.Author.Tests.{le-ltb}
@@ -11,13 +11,23 @@ use lib.Dec.{ltb}
 use Rattle.rules.specs.declared.Verdict.{Verdict}
 use Rattle.rules.specs.Blocks.{records}
 use Rattle.rules.specs.Records.{taskCount}
-use Rattle.rules.specs.Chains.{chainIds, related}
+use Rattle.rules.specs.Chains.{Chain, chainIds, related}
 use Rattle.rules.specs.Refusals.{accepted, refusal, tableVerdict}
 use Rattle.rules.specs.Calls.{over, BoundCall, boundVerdict, boundRefusal}
 use Rattle.rules.proofs.Numbers.{never}
+use Rattle.rules.proofs.FourBounds.Shown.{chain-below}
 use Rattle.stack.specs.declared.call.Found.{Found}
 use Rattle.stack.specs.Figures.{figuresIn, FoundFor}
-use Rattle.stack.proofs.Figures.{Within, chain-within}
+
+-- the first so many places of an array are tasks', where they are a chain
+pub first-below : (n : ℕ) (R : ℕ → ℕ → Bool) (count : ℕ) (places : List ℕ) → count ≤ length places → Chain n R (take count places) → (k : ℕ) → k < count
+    → getD places k 0 < n
+first-below n R count places long chain k h =
+    omega (
+      arith,
+      chain-below n R (take count places) chain k (omega (arith, length-take-le count places long)),
+      getD-take count places k 0 h,
+    )
 
 module _ (image lent ids : List ℕ) where
   -- a verdict that refuses before the bounds are asked is the answer
@@ -69,10 +79,4 @@ module _ (image lent ids : List ℕ) where
     -- every place of the chain is a task's
     pub places-below : (few : taskCount (records image) ≤ 64) (k : ℕ) → length (found .places) ≡ 64 → k < found .length → getD (found .places) k 0 < 64
     places-below few k long h =
-        let within = chain-within (taskCount (records image)) (related (records image) lent) (take (found .length) (found .places)) (right .right .chain .chain) in
-        omega (arith, within-at (taskCount (records image)) (take (found .length) (found .places)) within k (omega (arith, chain-long long)), getD-take (found .length) (found .places) k 0 h)
-      where
-        within-at : (n : ℕ) (c : List ℕ) → Within n c → (k : ℕ) → k < length c → getD c k 0 < n
-        within-at n [] w k l = absurd (omega arith)
-        within-at n (i ∷ c) w Prim.Native.Nat.zero l = w .0
-        within-at n (i ∷ c) w (Prim.Native.Nat.suc k) l = within-at n c (w .1) k (omega arith)
+        omega (arith, first-below (taskCount (records image)) (related (records image) lent) (found .length) (found .places) (omega (arith, right .room)) (right .right .chain .among) k h)

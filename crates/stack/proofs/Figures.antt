@@ -45,15 +45,15 @@ before-ids n id rise w (less {a = a} {b = b} h) = less (rise a b h (w .0))
 before-ids n id rise w (later b) = later (before-ids n id rise (w .1) b)
 before-ids n id rise w shorter = shorter
 
--- so the heaviest chain by places is the heaviest by ids
-pub heaviest-ids : (n : ℕ) (R : ℕ → ℕ → Bool) (S id : ℕ → ℕ) (c : List ℕ) → ((i j : ℕ) → i < j → j < n → id i < id j)
-    → Heaviest n R S (λ i. i) c → Heaviest n R S id c
-heaviest-ids n R S id c rise h =
+-- so the heaviest list by places is the heaviest by ids
+heaviest-ids : (P : List ℕ → Type 0) (n : ℕ) (S id : ℕ → ℕ) (c : List ℕ) → ((d : List ℕ) → P d → Within n d) → ((i j : ℕ) → i < j → j < n → id i < id j)
+    → Heaviest P S (λ i. i) c → Heaviest P S id c
+heaviest-ids P n S id c within rise h =
     record {
-      chain = h .chain;
+      among = h .among;
       most = h .most;
       first = λ d chain same other.
-          before-ids n id rise (chain-within n R d chain)
+          before-ids n id rise (within d chain)
           (subst (λ (l : List ℕ). Before l d) (map-same c) (subst (λ (l : List ℕ). Before (map (λ (i : ℕ). i) c) l) (map-same d) (h .first d chain same other)));
     }
 
@@ -86,7 +86,7 @@ largest-all n R cover S r below h =
     everywhere (i ∷ c) w = (true-T (bitAt cover i) (below i ∙ lt-ltb i n (w .0)), everywhere c (w .1))
 
 module _ (rs : List (List ℕ)) (lent : List ℕ) (count : ℕ) (columns : List ℕ) (shape : Shape rs) (read : TasksRead rs count columns) where
-  sizes-same : sizeOf (sizeColumn columns) ≡ sizeAt rs
+  pub sizes-same : sizeOf (sizeColumn columns) ≡ sizeAt rs
   sizes-same = fun-ext (size-is rs count columns shape read)
 
   priorities-same : (λ (i : ℕ). getD (priorityColumn columns) i 0) ≡ priorityAt rs
@@ -108,16 +108,18 @@ module _ (rs : List (List ℕ)) (lent : List ℕ) (count : ℕ) (columns : List 
       cells i j ∙ rw (read .count, threshold-is rs count columns shape read i, priority-is rs count columns shape read j)))
 
   module _ (rows : List ℕ) (same : cell rows ≡ related rs lent) where
-    chain-found : (c : List ℕ) → Heaviest count (cell rows) (sizeOf (sizeColumn columns)) (λ i. i) c
-        → Heaviest (taskCount rs) (related rs lent) (sizeAt rs) (idAt rs) c
-    chain-found c h =
-        heaviest-ids (taskCount rs) (related rs lent) (sizeAt rs) (idAt rs) c (shape .tasks-rise)
-        (subst (λ (n : ℕ). Heaviest n (related rs lent) (sizeAt rs) (λ i. i) c) (read .count)
-        (subst (λ (R : ℕ → ℕ → Bool). Heaviest count R (sizeAt rs) (λ i. i) c) same
-        (subst (λ (S : ℕ → ℕ). Heaviest count (cell rows) S (λ i. i) c) sizes-same h)))
+    -- the heaviest list over the rows, by places, is the heaviest over the relation, by ids
+    pub heaviest-found : (Lists : ℕ → (ℕ → ℕ → Bool) → List ℕ → Type 0) → ((n : ℕ) (R : ℕ → ℕ → Bool) (d : List ℕ) → Lists n R d → Within n d)
+        → (c : List ℕ) → Heaviest (Lists count (cell rows)) (sizeOf (sizeColumn columns)) (λ i. i) c
+        → Heaviest (Lists (taskCount rs) (related rs lent)) (sizeAt rs) (idAt rs) c
+    heaviest-found Lists within c h =
+        heaviest-ids (Lists (taskCount rs) (related rs lent)) (taskCount rs) (sizeAt rs) (idAt rs) c (within (taskCount rs) (related rs lent)) (shape .tasks-rise)
+        (subst (λ (n : ℕ). Heaviest (Lists n (related rs lent)) (sizeAt rs) (λ i. i) c) (read .count)
+        (subst (λ (R : ℕ → ℕ → Bool). Heaviest (Lists count R) (sizeAt rs) (λ i. i) c) same
+        (subst (λ (S : ℕ → ℕ). Heaviest (Lists count (cell rows)) S (λ i. i) c) sizes-same h)))
 
     -- a bound over lists of the rows is one over lists of the relation
-    over-relation : (Lists : ℕ → (ℕ → ℕ → Bool) → List ℕ → Type 0) (r : ℕ) → Largest (Lists count (cell rows)) (weight (sizeOf (sizeColumn columns))) r
+    pub over-relation : (Lists : ℕ → (ℕ → ℕ → Bool) → List ℕ → Type 0) (r : ℕ) → Largest (Lists count (cell rows)) (weight (sizeOf (sizeColumn columns))) r
         → Largest (Lists (taskCount rs) (related rs lent)) (weight (sizeAt rs)) r
     over-relation Lists r h =
         subst (λ (n : ℕ). Largest (Lists n (related rs lent)) (weight (sizeAt rs)) r) (read .count)
@@ -152,7 +154,7 @@ module _ (rs : List (List ℕ)) (lent : List ℕ) (count : ℕ) (columns : List 
       record {
         right =
             record {
-              chain = chain-found rows same (figuresIn found .chain) (over .heaviest);
+              chain = heaviest-found rows same Chain chain-within (figuresIn found .chain) (over .heaviest);
               path = over-relation rows same Path (found .path) (over .path);
               transactions = own-found rows same (found .transactions) (over .own);
               levels = over .levels ∙ levels-found;

@@ -21,7 +21,7 @@ use Rattle.sets.proofs.Columns.{column-long}
 use Rattle.preempt.proofs.Accepted.{shape}
 use Rattle.preempt.proofs.Reading.{few-read, id-is, priority-is, size-is, threshold-is}
 use Rattle.stack.specs.Order.{Falling}
-use Rattle.stack.specs.Setting.{Ready, RowsRise}
+use Rattle.stack.specs.Setting.{Arrays, Ready, RowsRise}
 use Rattle.stack.specs.Related.{RelatedRows}
 use Rattle.stack.proofs.Inserting.{falling-ready}
 
@@ -58,9 +58,16 @@ module _ (image : List ℕ) (known : (k : ℕ) → Fits w8 (getD image k 0)) (ri
         most = λ i h. omega (arith, priority-is (records image) count columns accepted-shape read i, ranges i h .most-priority);
       }
 
+  pub rows-arrays : (lent rows : List ℕ) → RelatedRows count (thresholdColumn columns) (priorityColumn columns) lent rows → Arrays count rows (sizeColumn columns)
+  rows-arrays lent rows related =
+      record {
+        few = few-read (records image) count columns accepted-shape read;
+        row-count = related .row-count;
+        size-count = column-long _ _ (read .columns .sizes);
+        light = λ i h. sizes-light i;
+      }
+
   pub rows-ready : (lent rows order : List ℕ) → length order ≡ 64 → RelatedRows count (thresholdColumn columns) (priorityColumn columns) lent rows → Falling count (priorityColumn columns) order
       → Ready count rows (sizeColumn columns) order
   rows-ready lent rows order long related falling =
-      falling-ready
-      (record { few = few-read (records image) count columns accepted-shape read; row-count = related .row-count; size-count = column-long _ _ (read .columns .sizes); light = λ i h. sizes-light i })
-      long falling (rows-rising lent rows related)
+      falling-ready (rows-arrays lent rows related) long falling (rows-rising lent rows related)

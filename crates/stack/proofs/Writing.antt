@@ -9,11 +9,11 @@ use lib.Seq.{set-at, drop-cons, take-suc}
 use Rattle.rules.specs.Calls.{over}
 
 -- one more value behind those that are written
-stored-next : (done l : List ℕ) (k v : ℕ) → length done ≡ k → k < length l → set (over done l) k v ≡ over (done ++ (v ∷ [])) l
+pub stored-next : {A : Type 0} (done l : List A) (k : ℕ) (v : A) → length done ≡ k → k < length l → set (over done l) k v ≡ over (done ++ (v ∷ [])) l
 stored-next done l k v e h =
-    let here : drop (length done) l ≡ getD l (length done) 0 ∷ drop (suc (length done)) l = drop-cons l (length done) 0 (omega arith) in
+    let here : drop (length done) l ≡ getD l (length done) v ∷ drop (suc (length done)) l = drop-cons l (length done) v (omega arith) in
     let count : length (done ++ (v ∷ [])) ≡ suc (length done) = rw (length-append done (v ∷ [])) (omega arith) in
-    rw (here, set-at done (getD l (length done) 0) (drop (suc (length done)) l) v k e, count) (sym (append-assoc done (v ∷ []) (drop (suc (length done)) l)))
+    rw (here, set-at done (getD l (length done) v) (drop (suc (length done)) l) v k e, count) (sym (append-assoc done (v ∷ []) (drop (suc (length done)) l)))
 
 map-last : (f : ℕ → ℕ) (l : List ℕ) (x : ℕ) → map f (l ++ (x ∷ [])) ≡ map f l ++ (f x ∷ [])
 map-last f [] x = refl

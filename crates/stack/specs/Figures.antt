@@ -8,7 +8,7 @@ use lib.Dec.{eqb}
 use Rattle.rules.specs.Numbers.{sumTo}
 use Rattle.rules.specs.Records.{numberOf}
 use Rattle.rules.specs.Preempt.{cell}
-use Rattle.rules.specs.Chains.{weight, Path, All, Largest, Heaviest, Figures, FiguresOf, chainBound}
+use Rattle.rules.specs.Chains.{weight, Chain, Path, All, Largest, Heaviest, Figures, FiguresOf, chainBound}
 use Rattle.ceiling.specs.Near.{sizeOf}
 use Rattle.stack.specs.declared.call.Found.{Found}
 use Rattle.stack.specs.Levels.{levelsOf}
@@ -36,7 +36,7 @@ figuresIn found =
 
 -- what was found over the rows of the relation, the sizes, the priorities and the numbers of the tasks' transactions
 pub record FoundOver (n : ℕ) (rows sizes priorities numbers : List ℕ) (listed : List (List ℕ)) (found : Found) : Type 0 where
-  pub heaviest : Heaviest n (cell rows) (sizeOf sizes) (λ i. i) (figuresIn found .chain)
+  pub heaviest : Heaviest (Chain n (cell rows)) (sizeOf sizes) (λ i. i) (figuresIn found .chain)
   pub weighs : found .chain ≡ weight (sizeOf sizes) (figuresIn found .chain)
   pub room : found .length ≤ 64
   pub path : Largest (Path n (cell rows)) (weight (sizeOf sizes)) (found .path)

@@ -102,7 +102,7 @@ fn find(image: &[u8], columns: &Columns, count: usize, map: &[u64]) -> Found
 }
 
 // Writes the ids of the chain, by its places among the ids of all tasks, over the start of the room.
-fn write_ids(places: [u8; 64], count: usize, all: &[u32], ids: &mut [u16])
+pub fn write_ids(places: [u8; 64], count: usize, all: &[u32], ids: &mut [u16])
     requires { ⌜ (length places ≡ 64) × (count ≤ 64) × (length (now all) ≡ 64) × (64 ≤ length (now ids)) ⌝ }
     requires { ⌜ ((k : ℕ) → k < count → getD places k 0 < 64) ⌝ }
     requires { ⌜ ((i : ℕ) → getD (now all) i 0 < 65536) ⌝ }

@@ -1,9 +1,9 @@
 // The chain and the four bounds of a table over a lent map; below the call, path sums and the search over plain slices.
 pub mod call;
 mod levels;
-mod naming;
+pub mod naming;
 mod order;
 mod own;
 mod path;
-mod related;
-mod search;
+pub mod related;
+pub mod search;

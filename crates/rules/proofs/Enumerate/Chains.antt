@@ -73,16 +73,28 @@ module _ (n : ℕ) (R : ℕ → ℕ → Bool) (S id : ℕ → ℕ) where
         rest : List ℕ
         rest = heaviest k (λ j. test j && R i j)
 
-    -- with top places left it is the heaviest chain, and first among equals where no two places share an id
-    pub heaviest-heaviest : ((i j : ℕ) → i < n → j < n → id i ≡ id j → i ≡ j) → Heaviest n R S id (heaviest top every)
-    heaviest-heaviest apart =
-        record {
-          chain = heaviest-chain top every .0;
-          most = λ d h. wins-weight S id (heaviest top every) d (over d h);
-          first = λ d h same differ.
-              wins-before S id (heaviest top every) d (over d h) same
-              (λ e. differ (sym (ids-tell n R id apart (heaviest top every) d (heaviest-chain top every .0) h e)));
-        }
-      where
-        over : (d : List ℕ) → Chain n R d → wins S id (heaviest top every) d ≡ true
-        over d h = heaviest-wins top every (λ i l t. omega arith) d h (all-every d)
+    -- no two places share an id
+    module _ (apart : (i j : ℕ) → i < n → j < n → id i ≡ id j → i ≡ j) where
+      -- with top places left it is the heaviest chain of places that pass the test, and first among equals
+      pub heaviest-passing : (test : ℕ → Bool) → Heaviest (λ c. Chain n R c × All test c) S id (heaviest top test)
+      heaviest-passing test =
+          record {
+            among = heaviest-chain top test;
+            most = λ d h. wins-weight S id (heaviest top test) d (over d h);
+            first = λ d h same differ.
+                wins-before S id (heaviest top test) d (over d h) same
+                (λ e. differ (sym (ids-tell n R id apart (heaviest top test) d (heaviest-chain top test .0) (h .0) e)));
+          }
+        where
+          over : (d : List ℕ) → Chain n R d × All test d → wins S id (heaviest top test) d ≡ true
+          over d h = heaviest-wins top test (λ i l t. omega arith) d (h .0) (h .1)
+
+      -- so where every place passes, it is the heaviest of all chains
+      pub heaviest-heaviest : Heaviest (Chain n R) S id (heaviest top every)
+      heaviest-heaviest =
+          let best = heaviest-passing every in
+          record {
+            among = best .among .0;
+            most = λ d h. best .most d (h, all-every d);
+            first = λ d h. best .first d (h, all-every d);
+          }

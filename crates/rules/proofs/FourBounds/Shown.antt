@@ -18,20 +18,20 @@ use Rattle.rules.proofs.Refusals.{accepted-first}
 use Rattle.rules.proofs.Table.Listed.{listed-here}
 
 -- the places of a chain hold tasks
-chain-below : (n : ℕ) (R : ℕ → ℕ → Bool) (c : List ℕ) → Chain n R c → (k : ℕ) → k < length c → getD c k 0 < n
+pub chain-below : (n : ℕ) (R : ℕ → ℕ → Bool) (c : List ℕ) → Chain n R c → (k : ℕ) → k < length c → getD c k 0 < n
 chain-below n R [] chain k h = absurd (omega arith)
 chain-below n R (i ∷ c) chain zero h = chain .0
 chain-below n R (i ∷ c) chain (suc k) h = chain-below n R c (chain .2) k (omega arith)
 
 -- what a list is mapped to, at a place of it
-mapped-at : (f : ℕ → ℕ) (l : List ℕ) (k : ℕ) → k < length l → getD (map f l) k 0 ≡ f (getD l k 0)
+pub mapped-at : (f : ℕ → ℕ) (l : List ℕ) (k : ℕ) → k < length l → getD (map f l) k 0 ≡ f (getD l k 0)
 mapped-at f [] k h = absurd (omega arith)
 mapped-at f (i ∷ l) zero h = refl
 mapped-at f (i ∷ l) (suc k) h = mapped-at f l k (omega arith)
 
 -- a bound call whose answer is no refusal
 module _ (image rows ids : List ℕ) (answer : Bounds) (later : List ℕ) (call : BoundCall image rows ids answer later) (fine : answer .number ≡ 0) where
-  verdict-accepted : accepted (boundVerdict image rows ids) ≡ true
+  pub verdict-accepted : accepted (boundVerdict image rows ids) ≡ true
   verdict-accepted =
       either (accepted (boundVerdict image rows ids))
       (λ t. t)
@@ -47,7 +47,7 @@ module _ (image rows ids : List ℕ) (answer : Bounds) (later : List ℕ) (call 
   worked = call .worked verdict-accepted
 
   -- the chain is written whole
-  shown-length : length (chainIds (records image) (worked .figures)) ≡ answer .length
+  pub shown-length : length (chainIds (records image) (worked .figures)) ≡ answer .length
   shown-length = length-map (worked .figures .chain) (idAt (records image)) ∙ sym (ap (λ (b : Bounds). b .length) (worked .found .0))
 
   pub shown-fits : answer .length ≤ length later
@@ -63,4 +63,4 @@ module _ (image rows ids : List ℕ) (answer : Bounds) (later : List ℕ) (call 
       let inside : k < length chain = omega (arith, shown-length, length-map chain (idAt (records image))) in
       let id : getD later k 0 ≡ idAt (records image) (getD chain k 0) = ap (λ (l : List ℕ). getD l k 0) (worked .found .1) ∙ List·getD-append written (drop (length written) ids) 0 k (omega (arith, shown-length)) ∙ mapped-at (idAt (records image)) chain k inside in
       rw id
-      (listed-here (tasks (records image)) (getD chain k 0) (chain-below (taskCount (records image)) (related (records image) rows) chain (worked .right .chain .chain) k inside))
+      (listed-here (tasks (records image)) (getD chain k 0) (chain-below (taskCount (records image)) (related (records image) rows) chain (worked .right .chain .among) k inside))

@@ -1,7 +1,6 @@
 -- Each figure, and each answer of a bound call with the ids afterwards, is determined by the table and the map.
 use Prim.Native.Nat.{ℕ, _<_}
 use mathlib.Core.List.{List, List-discrete}
-use mathlib.Core.Bool.{Bool}
 use mathlib.Core.Path.{_≡_, ap, sym, _∙_}
 use native.Mathlib.Decide.{ℕ-discrete}
 use native.Mathlib.Omega.{arith}
@@ -9,7 +8,7 @@ use lib.ListN.{length}
 use Rattle.rules.specs.declared.Bounds.{Bounds}
 use Rattle.rules.specs.Blocks.{records}
 use Rattle.rules.specs.Records.{taskCount, transactions}
-use Rattle.rules.specs.Chains.{weight, Path, All, Before, Largest, Heaviest, related, sizeAt, idAt, inTransaction, TransactionBound, Figures, FiguresOf, chainIds}
+use Rattle.rules.specs.Chains.{weight, Chain, Path, All, Before, Largest, Heaviest, related, sizeAt, idAt, inTransaction, TransactionBound, Figures, FiguresOf, chainIds}
 use Rattle.rules.specs.Chains.Before.{less, later}
 use Rattle.rules.specs.Refusals.{accepted}
 use Rattle.rules.specs.Calls.{over, boundVerdict, boundsFound, BoundCall, BoundsWorkedOut}
@@ -29,17 +28,17 @@ before-once (less l) (later m) = omega arith
 before-once (later l) (less m) = omega arith
 before-once (later l) (later m) = before-once l m
 
--- there is one heaviest chain that is first among equals
-pub heaviest-unique : (n : ℕ) (R : ℕ → ℕ → Bool) (S id : ℕ → ℕ) (c d : List ℕ) → Heaviest n R S id c → Heaviest n R S id d → c ≡ d
-heaviest-unique n R S id c d a b =
+-- there is one heaviest list that is first among equals
+pub heaviest-unique : (P : List ℕ → Type 0) (S id : ℕ → ℕ) (c d : List ℕ) → Heaviest P S id c → Heaviest P S id d → c ≡ d
+heaviest-unique P S id c d a b =
     elim (List-discrete ℕ-discrete c d) [
       | yes e ↦ e
       | no differ ↦
-          absurd (before-once (a .first d (b .chain) (sym same) (λ e. differ (sym e))) (b .first c (a .chain) same differ))
+          absurd (before-once (a .first d (b .among) (sym same) (λ e. differ (sym e))) (b .first c (a .among) same differ))
     ]
   where
     same : weight S c ≡ weight S d
-    same = omega (arith, a .most d (b .chain), b .most c (a .chain))
+    same = omega (arith, a .most d (b .among), b .most c (a .among))
 
 -- there is one bound by transactions
 pub transactions-unique : (rs : List (List ℕ)) (rows : List ℕ) (r s : ℕ) → TransactionBound rs rows r → TransactionBound rs rows s → r ≡ s
@@ -57,7 +56,7 @@ figures-unique rs rows f g a b =
     λ i. record { chain = chain i; path = path i; transactions = transactions′ i; levels = levels i }
   where
     chain : f .chain ≡ g .chain
-    chain = heaviest-unique (taskCount rs) (related rs rows) (sizeAt rs) (idAt rs) (f .chain) (g .chain) (a .chain) (b .chain)
+    chain = heaviest-unique (Chain (taskCount rs) (related rs rows)) (sizeAt rs) (idAt rs) (f .chain) (g .chain) (a .chain) (b .chain)
 
     path : f .path ≡ g .path
     path = largest-unique (Path (taskCount rs) (related rs rows)) (weight (sizeAt rs)) (f .path) (g .path) (a .path) (b .path)

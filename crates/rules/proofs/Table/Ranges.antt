@@ -35,6 +35,7 @@ pub record TaskRanges (r : List ℕ) : Type 0 where
   pub most-priority : le2 r 6 ≤ 255
   pub response-from-offset : le4 r 8 ≤ le4 r 16
   pub threshold-from-priority : le2 r 6 ≤ thresholdOf (le2 r 6) (getD r 22 0)
+  pub some-size : 1 ≤ le2 r 20
 
 -- a threshold that is in range is never read as one below the priority
 threshold-from : (p b : ℕ) → thresholdRight p b ≡ true → p ≤ thresholdOf p b
@@ -56,4 +57,5 @@ task-ranges r h =
       most-priority = between-most 1 (le2 r 6) 255 priority;
       response-from-offset = between-least (le4 r 8) (le4 r 16) 2000000000 response;
       threshold-from-priority = threshold-from (le2 r 6) (getD r 22 0) (both-second (between 1 (le2 r 6) 255) _ name″);
+      some-size = leb-true 1 (le2 r 20) (both-second (timeRight r) (leb 1 (le2 r 20)) rest);
     }

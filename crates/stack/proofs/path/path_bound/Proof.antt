@@ -1,8 +1,7 @@
 -- The best sums of all places are made, and a set of all places leaves the path bound itself.
-use mathlib.Core.Path.{sym, _∙_}
-use borrow.Author.Tests.{ltb-true}
 use Rattle.rules.specs.Preempt.{cell}
 use Rattle.ceiling.specs.Near.{sizeOf}
+use Rattle.sets.proofs.Sets.{below-inside}
 use Rattle.stack.proofs.Sums.{sums-bound}
 use Rattle.stack.proofs.Figures.{largest-all}
 use borrow.Author.Needs.{needs}
@@ -13,7 +12,7 @@ all-below-requires : tie.Need-all-below-requires
 all-below-requires c κs = search needs
 
 path-sums-requires : tie.Need-path-sums-requires
-path-sums-requires c κs = (c .before .before .before .before .pre, λ j h. ltb-true j (c .before .before .before .before .args .count) (sym (c .all-below .ensures j) ∙ h))
+path-sums-requires c κs = (c .before .before .before .before .pre, below-inside (c .before .before .before .before .args .count) (c .all-below .result) (c .all-below .ensures))
 
 largest-at-requires : tie.Need-largest-at-requires
 largest-at-requires c κs = search needs

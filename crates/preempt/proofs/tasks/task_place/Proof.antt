@@ -2,9 +2,9 @@
 use mathlib.Core.Path.{_∙_}
 use native.Mathlib.Omega.{arith}
 use Rattle.table.proofs.Counts.{table-held, count-asked}
 use Rattle.preempt.proofs.Accepted.{kinds-counted, task-placed}
-use Rattle.reason.proofs.places.task_place.Statement.{statement}
-use Rattle.reason.proofs.places.task_place.Tie as tie
+use Rattle.preempt.proofs.tasks.task_place.Statement.{statement}
+use Rattle.preempt.proofs.tasks.task_place.Tie as tie
 
 count-kind-requires : tie.Need-count-kind-requires
 count-kind-requires c κs =
