@@ -159,6 +159,29 @@ static void answer_patch(lengths lent)
     putchar('\n');
 }
 
+/* The room call, and the chain call for one task; reserve and id stand where the last two lengths of others do. */
+static void answer_growth(lengths lent)
+{
+    static table of;
+    uint64_t bits[MOST_ROWS];
+    int64_t figures[MOST_ROWS];
+    uint16_t ids[MOST_IDS];
+    read_bytes(of.image, lent.image, sizeof of.image);
+    read_rows(of.map, lent.base_rows);
+    read_rows(bits, lent.new_rows);
+    read_bytes(ids, 2 * lent.ids, sizeof ids);
+    memcpy(figures, bits, 8 * lent.new_rows);
+    siodlomil_room_left_answer room =
+        siodlomil_room_left(of.image, lent.image, of.map, lent.base_rows, (uint32_t)lent.room, figures, lent.new_rows);
+    printf("G %" PRIu32 " %" PRIu32, room.number, room.place);
+    print_digest(figures, 8 * lent.new_rows);
+    siodlomil_chain_through_answer shown =
+        siodlomil_chain_through(of.image, lent.image, of.map, lent.base_rows, (uint32_t)lent.steps, ids, lent.ids);
+    printf(" | %" PRIu32 " %" PRIu32 " %" PRIu32 " %" PRIu32, shown.number, shown.place, shown.weight, shown.length);
+    print_digest(ids, 2 * lent.ids);
+    putchar('\n');
+}
+
 static void answer_reverse(lengths lent)
 {
     static uint8_t image[MOST_BYTES], room[MOST_BYTES];
@@ -321,6 +344,7 @@ static void answer(int call, lengths lent)
     case 'A': answer_patch(lent); break;
     case 'V': answer_reverse(lent); break;
     case 'U': answer_trip(lent); break;
+    case 'G': answer_growth(lent); break;
     case 'W': answer_reasons(lent); break;
     case 'R': answer_run(lent); break;
     default: broken();

@@ -94,6 +94,13 @@ const calls = {
     const { numbers, part } = patched(base, patch, baseMap, room, newMap);
     return [...numbers, digest(part), digest(room), digest(newMap)];
   },
+  G(lent) {
+    const [image, map] = [take(Uint8Array, lent.image), take(BigUint64Array, lent.baseRows)];
+    const [figures, ids] = [take(BigInt64Array, lent.newRows), take(Uint16Array, lent.ids)];
+    const [reserve, id] = [lent.room, lent.steps]; // they stand where the last two lengths of other calls do
+    const room = [...Object.values(siodlomil.roomLeft(image, map, reserve, figures)), digest(figures)];
+    return [...room, "|", ...Object.values(siodlomil.chainThrough(image, map, id, ids)), digest(ids)];
+  },
   V(lent) {
     const [patch, room] = [take(Uint8Array, lent.image), take(Uint8Array, lent.room)];
     return [...Object.values(siodlomil.reverse(patch, room)), digest(room)];

@@ -13,8 +13,15 @@ assert.deepStrictEqual(
   ["memory", "__heap_base", ...declared].sort(),
 );
 
-// The binding has a function for each, and refuses what the module would cut or take for something else.
+// The binding has a function for each, its words put together as JavaScript does, and refuses what the module would cut or take
+// for something else.
 const siodlomil = await load(bytes);
-assert.deepStrictEqual(Object.keys(siodlomil).map((name) => `siodlomil_${name}`).sort(), declared.sort());
+const inHeader = (name) => `siodlomil_${name.replace(/[A-Z]/g, (letter) => `_${letter.toLowerCase()}`)}`;
+assert.deepStrictEqual(Object.keys(siodlomil).map(inHeader).sort(), declared.sort());
 assert.throws(() => siodlomil.map([], new BigUint64Array(64)), TypeError);
 assert.throws(() => siodlomil.reason(new Uint8Array(512), 4294967296 + 11, 12), RangeError);
+const [image, map] = [new Uint8Array(512), new BigUint64Array(64)];
+assert.throws(() => siodlomil.roomLeft(image, map, 0, new BigUint64Array(64)), TypeError);
+assert.throws(() => siodlomil.roomLeft(image, map, -1, new BigInt64Array(64)), RangeError);
+assert.throws(() => siodlomil.roomLeft(image, map, 4294967296, new BigInt64Array(64)), RangeError);
+assert.throws(() => siodlomil.chainThrough(image, map, 4294967296 + 11, new Uint16Array(64)), RangeError);

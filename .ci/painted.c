@@ -20,6 +20,7 @@ static uint8_t stack[STACK_BYTES], table[SIODLOMIL_TABLE_BYTES], patch[SIODLOMIL
 static uint8_t room[SIODLOMIL_PATCH_BYTES];
 static uint64_t map[SIODLOMIL_MAP_ROWS], new_map[SIODLOMIL_MAP_ROWS];
 static uint16_t ids[SIODLOMIL_CHAIN_IDS];
+static int64_t figures[SIODLOMIL_ROOM_FIGURES];
 static size_t table_bytes, patch_bytes;
 static ucontext_t caller, callee;
 static const uint8_t *before;
@@ -41,6 +42,18 @@ static void call_bounds(void)
 {
     NOTE_STACK();
     siodlomil_bounds(table, table_bytes, map, SIODLOMIL_MAP_ROWS, ids, SIODLOMIL_CHAIN_IDS);
+}
+
+static void call_room_left(void)
+{
+    NOTE_STACK();
+    siodlomil_room_left(table, table_bytes, map, SIODLOMIL_MAP_ROWS, 0, figures, SIODLOMIL_ROOM_FIGURES);
+}
+
+static void call_chain_through(void)
+{
+    NOTE_STACK();
+    siodlomil_chain_through(table, table_bytes, map, SIODLOMIL_MAP_ROWS, ids[0], ids, SIODLOMIL_CHAIN_IDS);
 }
 
 static void call_reason(void)
@@ -113,6 +126,8 @@ int main(int count, char **words)
     patch_bytes = read_file(words[2], patch, sizeof patch);
     measure("siodlomil_map", call_map);
     measure("siodlomil_bounds", call_bounds);
+    measure("siodlomil_room_left", call_room_left);
+    measure("siodlomil_chain_through", call_chain_through);
     measure("siodlomil_reason", call_reason);
     measure("siodlomil_patch", call_patch);
     measure("siodlomil_reverse", call_reverse);

@@ -12,5 +12,6 @@
 #include "plain/ceiling.c"
 #include "plain/search.c"
 #include "plain/stack.c"
+#include "plain/through.c"
 #include "plain/patch.c"
 #include "plain/reverse.c"

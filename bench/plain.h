@@ -5,7 +5,7 @@
 #include <stddef.h>
 #include <stdint.h>
 
-/* What a map call answers: refusal number and place, or 0 and 0. */
+/* What a map call and a room call answer: refusal number and place, or 0 and 0. */
 struct plain_verdict {
     uint32_t number, place;
 };
@@ -13,6 +13,11 @@ struct plain_verdict {
 /* What a bound call answers. */
 struct plain_bounds {
     uint32_t number, place, tasks, chain, path, transactions, levels, length;
+};
+
+/* What a chain call for one task answers. */
+struct plain_shown {
+    uint32_t number, place, weight, length;
 };
 
 /* What a reason call answers: the reason, 1 to 6, or 0 where the call is refused. */
@@ -37,6 +42,12 @@ struct plain_verdict plain_map(const uint8_t *image, size_t bytes, uint64_t *row
 
 struct plain_bounds plain_bounds(const uint8_t *image, size_t bytes, const uint64_t *map, size_t row_count,
                                  uint16_t *ids, size_t id_count);
+
+struct plain_verdict plain_room_left(const uint8_t *image, size_t bytes, const uint64_t *map, size_t row_count,
+                                     uint32_t reserve, int64_t *room, size_t room_count);
+
+struct plain_shown plain_chain_through(const uint8_t *image, size_t bytes, const uint64_t *map, size_t row_count,
+                                       uint32_t id, uint16_t *ids, size_t id_count);
 
 struct plain_reasoned plain_reason(const uint8_t *image, size_t bytes, uint32_t low, uint32_t high);
 

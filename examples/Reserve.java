@@ -12,6 +12,11 @@ import siodlomil.Siodlomil;
  * does from Java what examples/reserve.c does from C, and prints the same.
  */
 public final class Reserve {
+    /** A task of figure 2 outside the chain that reaches its reserve. */
+    private static final int ASKED = 21;
+
+    private static final long LARGEST_RESERVE = 4_294_967_295L;
+
     /** A table image with its map. */
     private static final class Table {
         final byte[] image;
@@ -39,18 +44,51 @@ public final class Reserve {
         return answer.isAccepted();
     }
 
-    /** Prints the reserve of a table, the chain of tasks that reaches it with the reasons, and the other bounds. */
+    /**
+     * Prints how many bytes each of the first tasks may grow until a chain through it weighs this much; less than 0 where one
+     * weighs more already.
+     */
+    private static void printRoom(Table of, long reserve, String whom, int tasks) {
+        long[] room = new long[Siodlomil.ROOM_FIGURES];
+        if (Siodlomil.roomLeft(of.image, of.map, reserve, room).isAccepted()) {
+            StringBuilder figures = new StringBuilder();
+            for (int k = 0; k < tasks; k++) {
+                figures.append(' ').append(room[k]);
+            }
+            System.out.println("  room left of " + reserve + whom + ":" + figures);
+        }
+    }
+
+    /** The first ids of a chain, each behind a space. */
+    private static String listed(short[] ids, int length) {
+        StringBuilder chain = new StringBuilder();
+        for (int k = 0; k < length; k++) {
+            chain.append(' ').append(ids[k] & 0xffff);
+        }
+        return chain.toString();
+    }
+
+    /** Prints what the heaviest chain through a task weighs, and its tasks. */
+    private static void printThrough(Table of, int id) {
+        short[] ids = new short[Siodlomil.CHAIN_IDS];
+        Siodlomil.Through answer = Siodlomil.chainThrough(of.image, of.map, id, ids);
+        if (answer.isAccepted()) {
+            String chain = listed(ids, answer.length);
+            System.out.println("  the heaviest chain through " + id + " weighs " + answer.weight + ":" + chain);
+        }
+    }
+
+    /**
+     * Prints the reserve of a table, the chain of tasks that reaches it with the reasons, the other bounds, what room is left
+     * of that reserve, of one byte less and of the largest there is, and a chain through another task.
+     */
     private static void printReserve(Table of) {
         short[] ids = new short[Siodlomil.CHAIN_IDS];
         Siodlomil.Bounds answer = Siodlomil.bounds(of.image, of.map, ids);
         if (!isAccepted("bounds", answer)) {
             return;
         }
-        StringBuilder chain = new StringBuilder();
-        for (int k = 0; k < answer.length; k++) {
-            chain.append(' ').append(ids[k] & 0xffff);
-        }
-        System.out.println("  reserve " + answer.chain + ", chain" + chain);
+        System.out.println("  reserve " + answer.chain + ", chain" + listed(ids, answer.length));
         System.out.println("  tasks " + answer.tasks + ", path " + answer.path + ", transactions " + answer.transactions
             + ", levels " + answer.levels);
         for (int k = 0; k + 1 < answer.length; k++) {
@@ -58,6 +96,12 @@ public final class Reserve {
             int high = ids[k + 1] & 0xffff;
             System.out.println("  " + low + " " + high + " " + Siodlomil.reason(of.image, low, high).word());
         }
+        printRoom(of, answer.chain, "", answer.tasks);
+        if (answer.chain > 0) {
+            printRoom(of, answer.chain - 1, "", answer.tasks);
+            printRoom(of, LARGEST_RESERVE, " to the first task", 1);
+        }
+        printThrough(of, ASKED);
     }
 
     /** Applies a patch to a base and returns the outcome with its map, or null. */
@@ -123,5 +167,7 @@ public final class Reserve {
             printOffending(before, other);
         }
         isAccepted("the reason of a task that is not listed", Siodlomil.reason(before.image, 0, 0));
+        short[] ids = new short[Siodlomil.CHAIN_IDS];
+        isAccepted("the chain through a task that is not listed", Siodlomil.chainThrough(before.image, before.map, 0, ids));
     }
 }

@@ -5,7 +5,7 @@
  *
  * reads a table image and two patch images. It applies PATCH to the table, then PATCH once more to the outcome, and then
  * the reverse of PATCH, which gives the table back. It applies OTHER to the table, asks for the reason of a task that no
- * table lists, and prints what each call answers.
+ * table lists and for the heaviest chain through it, and prints what each call answers.
  */
 #include <inttypes.h>
 #include <stdio.h>
@@ -78,7 +78,42 @@ static void print_reason(const table *of, uint16_t low, uint16_t high)
     }
 }
 
-/* Prints the reserve of a table, the chain of tasks that reaches it with the reasons, and the other bounds. */
+/* A task of figure 2 outside the chain that reaches its reserve. */
+enum { ASKED = 21 };
+
+/* Prints how many bytes each of the first tasks may grow until a chain through it weighs this much; less than 0 where one
+ * weighs more already. */
+static void print_room(const table *of, uint32_t reserve, const char *whom, uint32_t tasks)
+{
+    int64_t room[SIODLOMIL_ROOM_FIGURES];
+    siodlomil_room_left_answer answer = siodlomil_room_left(of->image, of->bytes, of->map, SIODLOMIL_MAP_ROWS, reserve,
+                                                            room, SIODLOMIL_ROOM_FIGURES);
+    if (answer.number == 0) {
+        printf("  room left of %" PRIu32 "%s:", reserve, whom);
+        for (uint32_t i = 0; i < tasks; i++) {
+            printf(" %" PRId64, room[i]);
+        }
+        printf("\n");
+    }
+}
+
+/* Prints what the heaviest chain through a task weighs, and its tasks. */
+static void print_through(const table *of, uint16_t id)
+{
+    uint16_t ids[SIODLOMIL_CHAIN_IDS];
+    siodlomil_chain_through_answer answer =
+        siodlomil_chain_through(of->image, of->bytes, of->map, SIODLOMIL_MAP_ROWS, id, ids, SIODLOMIL_CHAIN_IDS);
+    if (answer.number == 0) {
+        printf("  the heaviest chain through %u weighs %" PRIu32 ":", (unsigned)id, answer.weight);
+        for (uint32_t i = 0; i < answer.length; i++) {
+            printf(" %u", (unsigned)ids[i]);
+        }
+        printf("\n");
+    }
+}
+
+/* Prints the reserve of a table, the chain of tasks that reaches it with the reasons, the other bounds, what room is left of
+ * that reserve, of one byte less and of the largest there is, and a chain through another task. */
 static void print_reserve(const table *of)
 {
     uint16_t ids[SIODLOMIL_CHAIN_IDS];
@@ -96,6 +131,12 @@ static void print_reserve(const table *of)
     for (uint32_t i = 0; i + 1 < answer.length; i++) {
         print_reason(of, ids[i], ids[i + 1]);
     }
+    print_room(of, answer.chain, "", answer.tasks);
+    if (0 < answer.chain) {
+        print_room(of, answer.chain - 1, "", answer.tasks);
+        print_room(of, UINT32_MAX, " to the first task", 1);
+    }
+    print_through(of, ASKED);
 }
 
 /* Applies a patch to a base and returns whether the outcome is a table. */
@@ -157,6 +198,7 @@ int main(int count, char **words)
 {
     static table before, after, again;
     static patch first, other;
+    uint16_t ids[SIODLOMIL_CHAIN_IDS];
     if (count != 4) {
         fprintf(stderr, "usage: reserve TABLE PATCH OTHER\n");
         return EXIT_FAILURE;
@@ -184,5 +226,8 @@ int main(int count, char **words)
     }
     siodlomil_reason_answer reason = siodlomil_reason(before.image, before.bytes, 0, 0);
     is_accepted("the reason of a task that is not listed", reason.number, reason.place);
+    siodlomil_chain_through_answer through =
+        siodlomil_chain_through(before.image, before.bytes, before.map, SIODLOMIL_MAP_ROWS, 0, ids, SIODLOMIL_CHAIN_IDS);
+    is_accepted("the chain through a task that is not listed", through.number, through.place);
     return EXIT_SUCCESS;
 }

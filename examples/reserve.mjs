@@ -4,7 +4,7 @@
 //
 // does over siodlomil.wasm what examples/reserve.c does over the archive, and prints the same.
 import { readFileSync } from "node:fs";
-import { load, CHAIN_IDS, MAP_ROWS, PATCH_BYTES, REASONS, TABLE_BYTES } from "../page/siodlomil.mjs";
+import { load, CHAIN_IDS, MAP_ROWS, PATCH_BYTES, REASONS, ROOM_FIGURES, TABLE_BYTES } from "../page/siodlomil.mjs";
 
 if (process.argv.length !== 6) {
   console.error("usage: reserve MODULE TABLE PATCH OTHER");
@@ -19,7 +19,29 @@ function isAccepted(call, { number, place }) {
   return number === 0;
 }
 
-// Prints the reserve of a table, the chain of tasks that reaches it with the reasons, and the other bounds.
+// A task of figure 2 outside the chain that reaches its reserve.
+const ASKED = 21;
+
+// Prints how many bytes each of the first tasks may grow until a chain through it weighs this much; less than 0 where one
+// weighs more already.
+function printRoom({ image, map }, reserve, whom, tasks) {
+  const room = new BigInt64Array(ROOM_FIGURES);
+  if (siodlomil.roomLeft(image, map, reserve, room).number === 0) {
+    console.log([`  room left of ${reserve}${whom}:`, ...room.subarray(0, tasks)].join(" "));
+  }
+}
+
+// Prints what the heaviest chain through a task weighs, and its tasks.
+function printThrough({ image, map }, id) {
+  const ids = new Uint16Array(CHAIN_IDS);
+  const { number, weight, length } = siodlomil.chainThrough(image, map, id, ids);
+  if (number === 0) {
+    console.log(`  the heaviest chain through ${id} weighs ${weight}: ${ids.subarray(0, length).join(" ")}`);
+  }
+}
+
+// Prints the reserve of a table, the chain of tasks that reaches it with the reasons, the other bounds, what room is left of
+// that reserve, of one byte less and of the largest there is, and a chain through another task.
 function printReserve({ image, map }) {
   const ids = new Uint16Array(CHAIN_IDS);
   const answer = siodlomil.bounds(image, map, ids);
@@ -35,6 +57,12 @@ function printReserve({ image, map }) {
     const { reason } = siodlomil.reason(image, chain[k], chain[k + 1]);
     console.log(`  ${chain[k]} ${chain[k + 1]} ${REASONS[reason]}`);
   }
+  printRoom({ image, map }, answer.chain, "", answer.tasks);
+  if (answer.chain > 0) {
+    printRoom({ image, map }, answer.chain - 1, "", answer.tasks);
+    printRoom({ image, map }, 4294967295, " to the first task", 1);
+  }
+  printThrough({ image, map }, ASKED);
 }
 
 // Applies a patch to a base and returns the outcome with its map, or nothing.
@@ -93,3 +121,5 @@ if (apply("the other patch", before, other) === undefined) {
   printOffending(before, other);
 }
 isAccepted("the reason of a task that is not listed", siodlomil.reason(before.image, 0, 0));
+const through = siodlomil.chainThrough(before.image, before.map, 0, new Uint16Array(CHAIN_IDS));
+isAccepted("the chain through a task that is not listed", through);

@@ -1,6 +1,6 @@
 /*
- * Siodlomil from C: who may preempt whom in a task table and why, how much stack the tasks need at most, patches to a table,
- * and taking a patch off again.
+ * Siodlomil from C: who may preempt whom in a task table and why, how much stack the tasks need at most, how much each may
+ * still grow, patches to a table, and taking a patch off again.
  *
  * For x86-64 and 64-bit Arm, in C99 and C++. Link with libsiodlomil.a, which `tools/archive` writes for either; it uses
  * memcpy and memset of the C library, and nothing else. Every function in it is proved to meet its promise for every
@@ -12,13 +12,15 @@
  *   own, so calls may run at the same time, each on its own buffers.
  * - A call takes stack, at most so many bytes of it, as tools/stack-use reads off the two archives:
  *
- *                           x86-64       Arm
- *     siodlomil_map            6,328     6,368
- *     siodlomil_bounds        49,496    46,336
- *     siodlomil_reason         1,680     1,520
- *     siodlomil_patch         37,912    37,936
- *     siodlomil_reverse       21,792    21,776
- *     siodlomil_offending      1,696     1,568
+ *                             x86-64       Arm
+ *     siodlomil_map              6,328     6,368
+ *     siodlomil_bounds          49,496    46,336
+ *     siodlomil_room_left       47,448    44,368
+ *     siodlomil_chain_through   46,952    43,840
+ *     siodlomil_reason           1,680     1,520
+ *     siodlomil_patch           37,912    37,936
+ *     siodlomil_reverse         21,792    21,776
+ *     siodlomil_offending        1,696     1,568
  *
  *   To that come what memcpy and memset use and up to 160 bytes: arguments that have no register, and on Arm the inline
  *   function at the end of this header where a compiler does not put it in line.
@@ -96,7 +98,7 @@ extern "C" {
 #endif
 
 /* The version of the library; CHANGELOG.md says what each changed. */
-#define SIODLOMIL_VERSION "0.9.0"
+#define SIODLOMIL_VERSION "0.10.0"
 
 /* A block of an image, and a record in it. */
 #define SIODLOMIL_BLOCK_BYTES 512
@@ -113,6 +115,9 @@ extern "C" {
 
 /* The entries of a room for a chain's ids. */
 #define SIODLOMIL_CHAIN_IDS 64
+
+/* The entries of a room for what each task may still grow. */
+#define SIODLOMIL_ROOM_FIGURES 64
 
 /* Why a task may be preempted by another: the first of these rules that holds. */
 #define SIODLOMIL_REASON_TRANSACTION 1 /* they are of different transactions */
@@ -141,6 +146,20 @@ typedef struct siodlomil_bounds_answer {
     uint32_t levels;       /* the levels bound */
     uint32_t length;       /* how many ids of the chain are written */
 } siodlomil_bounds_answer;
+
+/* What siodlomil_room_left answers. */
+typedef struct siodlomil_room_left_answer {
+    uint32_t number;
+    uint32_t place;
+} siodlomil_room_left_answer;
+
+/* What siodlomil_chain_through answers. */
+typedef struct siodlomil_chain_through_answer {
+    uint32_t number;
+    uint32_t place;
+    uint32_t weight; /* what the chain weighs, in bytes */
+    uint32_t length; /* how many ids of the chain are written */
+} siodlomil_chain_through_answer;
 
 /* What siodlomil_reason answers. */
 typedef struct siodlomil_reason_answer {
@@ -216,6 +235,41 @@ siodlomil_map_answer siodlomil_map(const uint8_t *image, size_t image_bytes, uin
 SIODLOMIL_LONG_ANSWER siodlomil_bounds_answer
 siodlomil_bounds(const uint8_t *image, size_t image_bytes, const uint64_t *map, size_t map_rows, uint16_t *ids,
                  size_t ids_entries) SIODLOMIL_LINKED_AS("siodlomil_bounds_by_value");
+
+/*
+ * How many bytes each task of a table image may still grow within a reserve: refusals 1 to 8, 14, then 11.
+ *
+ * image    read: the table image.
+ * map      read: at least 64 rows, of any contents, as for siodlomil_bounds.
+ * reserve  the bytes that the shared stack has, 0 to 4,294,967,295.
+ * room     written: at least 64 entries. For the task at each place the reserve less the weight of the heaviest chain that
+ *          contains it, first, last or between. Entries of places without a task and entries beyond the 64 keep their
+ *          values.
+ *
+ * A figure of 0 or more, added to the task's stack S, keeps every chain through the task within the reserve, and one byte
+ * more does not; S itself may be 65,535 at most. Each figure is for its task alone: two tasks of one chain share what is
+ * left. A negative figure says that a chain through the task is above the reserve already. The least figure is the reserve
+ * less the chain bound of siodlomil_bounds; figures are from -4,194,240 to 4,294,967,294.
+ */
+siodlomil_room_left_answer siodlomil_room_left(const uint8_t *image, size_t image_bytes, const uint64_t *map,
+                                               size_t map_rows, uint32_t reserve, int64_t *room, size_t room_entries);
+
+/*
+ * Shows the heaviest chain of a table image that contains one task: refusals 1 to 8, 14, then 15, then 11.
+ *
+ * image  read: the table image.
+ * map    read: at least 64 rows, of any contents, as for siodlomil_bounds.
+ * id     the id of the task. An id that the table does not list is refusal 15, however long map and room are; 0 and numbers
+ *        above 65,535 are never listed.
+ * ids    written: at least 64 entries. The heaviest chain that contains the task by its tasks' ids, lowest priority first;
+ *        of such chains that weigh the same the first, compared id by id. Entries beyond the answered length keep their
+ *        values.
+ *
+ * The reserve less the weight is the task's figure of siodlomil_room_left. For a task of the chain that siodlomil_bounds
+ * shows, the chain shown here is that chain.
+ */
+siodlomil_chain_through_answer siodlomil_chain_through(const uint8_t *image, size_t image_bytes, const uint64_t *map,
+                                                       size_t map_rows, uint32_t id, uint16_t *ids, size_t ids_entries);
 
 /*
  * Why the task low may be preempted by the task high, or why not: refusals 1 to 8, 14, then 15.

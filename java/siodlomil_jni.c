@@ -124,6 +124,36 @@ JNIEXPORT jintArray JNICALL Java_siodlomil_Siodlomil_callBounds(JNIEnv *env, jcl
     return ints(env, &answer, sizeof answer);
 }
 
+JNIEXPORT jintArray JNICALL Java_siodlomil_Siodlomil_callRoomLeft(JNIEnv *env, jclass of, jbyteArray image, jlongArray map,
+                                                        jint reserve, jlongArray room)
+{
+    (void)of;
+    lent all[] = {{BYTES, image, NULL, 0}, {ROWS, map, NULL, 0}, {ROWS, room, NULL, 0}};
+    if (!take(env, all, 3, 2)) {
+        return NULL;
+    }
+    siodlomil_room_left_answer answer =
+        siodlomil_room_left(all[0].elements, all[0].length, all[1].elements, all[1].length, (uint32_t)reserve,
+                            all[2].elements, all[2].length);
+    give_back(env, all, 3, 2);
+    return ints(env, &answer, sizeof answer);
+}
+
+JNIEXPORT jintArray JNICALL Java_siodlomil_Siodlomil_callChainThrough(JNIEnv *env, jclass of, jbyteArray image,
+                                                            jlongArray map, jint id, jshortArray ids)
+{
+    (void)of;
+    lent all[] = {{BYTES, image, NULL, 0}, {ROWS, map, NULL, 0}, {IDS, ids, NULL, 0}};
+    if (!take(env, all, 3, 2)) {
+        return NULL;
+    }
+    siodlomil_chain_through_answer answer =
+        siodlomil_chain_through(all[0].elements, all[0].length, all[1].elements, all[1].length, (uint32_t)id,
+                                all[2].elements, all[2].length);
+    give_back(env, all, 3, 2);
+    return ints(env, &answer, sizeof answer);
+}
+
 JNIEXPORT jintArray JNICALL Java_siodlomil_Siodlomil_callReason(JNIEnv *env, jclass of, jbyteArray image, jint low, jint high)
 {
     (void)of;

@@ -3,9 +3,13 @@
 
 #include <string.h>
 
-call *const calls[CALLS] = {call_verdict, call_map, call_bounds, call_reason, call_patch_verdict, call_patch,
-                            call_reverse};
-const char *const call_names[CALLS] = {"verdict", "map", "bounds", "reason", "patch verdict", "patch", "reverse"};
+call *const calls[CALLS] = {call_verdict, call_map, call_bounds, call_room_left, call_chain_through,
+                            call_reason, call_patch_verdict, call_patch, call_reverse};
+const char *const call_names[CALLS] = {"verdict", "map", "bounds", "room left", "chain through",
+                                       "reason", "patch verdict", "patch", "reverse"};
+
+/* The reserve that room is asked of; heaviest chains of the inputs weigh less and more than it: figures have both signs. */
+enum { RESERVE = 16384 };
 
 /* The input's table. */
 static struct image table_of(const struct input *input)
@@ -44,6 +48,18 @@ void call_bare_bounds(const struct side *side, const struct input *input, struct
     side->bounds(table_of(input), none, answer);
 }
 
+/* The room that a reserve leaves to each task of a table over the input's map. */
+void call_room_left(const struct side *side, const struct input *input, struct answer *answer)
+{
+    side->room_left(table_of(input), input->map, RESERVE, answer);
+}
+
+/* The heaviest chain through the task with the lowest id of a table, over the input's map. */
+void call_chain_through(const struct side *side, const struct input *input, struct answer *answer)
+{
+    side->chain_through(table_of(input), input->map, input->lowest_id, answer);
+}
+
 /* Why the task with the lowest id of a table may be preempted by the one with the highest, or why not. */
 void call_reason(const struct side *side, const struct input *input, struct answer *answer)
 {
@@ -79,13 +95,13 @@ void lend_own_map(struct input *input)
     memcpy(input->map, answer.rows, sizeof input->map);
 }
 
-/* The sets that the search visits, or more than are allowed. */
-uint64_t sets_visited(const struct input *input, uint64_t allowed)
+/* The sets that a call visits, or more than are allowed. */
+uint64_t sets_visited(call *made, const struct input *input, uint64_t allowed)
 {
     static struct answer answer;
     *sides[GCC]->sets_visited = 0;
     *sides[GCC]->sets_allowed = allowed;
-    call_bounds(sides[GCC], input, &answer);
+    made(sides[GCC], input, &answer);
     *sides[GCC]->sets_allowed = UINT64_MAX;
     return *sides[GCC]->sets_visited;
 }

@@ -10,15 +10,17 @@ call call_verdict;
 call call_map;
 call call_bounds;
 call call_bare_bounds;
+call call_room_left;
+call call_chain_through;
 call call_reason;
 call call_patch_verdict;
 call call_patch;
 call call_reverse;
 
 void lend_own_map(struct input *input);
-uint64_t sets_visited(const struct input *input, uint64_t allowed);
+uint64_t sets_visited(call *made, const struct input *input, uint64_t allowed);
 
-enum { VERDICT, MAP, BOUNDS, REASON, PATCH_VERDICT, PATCH, REVERSE, CALLS };
+enum { VERDICT, MAP, BOUNDS, ROOM_LEFT, CHAIN_THROUGH, REASON, PATCH_VERDICT, PATCH, REVERSE, CALLS };
 
 extern call *const calls[CALLS];
 extern const char *const call_names[CALLS];

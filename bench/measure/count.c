@@ -4,7 +4,7 @@
 
 #include "calls.h"
 
-/* A search that visits more sets than this is left out. */
+/* A call that visits more sets than this is left out. */
 enum { MOST_SETS = 3000 };
 
 /* Makes a call for every side. */
@@ -33,8 +33,9 @@ static void count_calls(struct input *input)
     }
     count(VERDICT, input);
     count(MAP, input);
-    if (sets_visited(input, MOST_SETS) <= MOST_SETS)
-        count(BOUNDS, input);
+    for (size_t made = BOUNDS; made <= CHAIN_THROUGH; made++)
+        if (sets_visited(calls[made], input, MOST_SETS) <= MOST_SETS)
+            count(made, input);
     count(REASON, input);
 }
 

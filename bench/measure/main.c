@@ -6,8 +6,9 @@
 #include "report.h"
 #include "timing.h"
 
-/* A search that visits more sets than this is left out, and so is one past what is visited in its class. */
-enum { SETS_OF_INPUT = 2000000, SETS_OF_CLASS = 5000000, MOST_LEFT_OUT = 2 };
+/* A search that visits more sets than this is left out, and so is one past what is visited in its class; a room call, which
+ * asks a ceiling for most tasks, may visit more. */
+enum { SETS_OF_INPUT = 2000000, SETS_OF_ROOM = 20000000, SETS_OF_CLASS = 5000000, MOST_LEFT_OUT = 2 };
 
 static struct class classes[MOST_CLASSES];
 static size_t class_count;
@@ -44,15 +45,21 @@ static void keep(struct class *class, size_t made, const struct input *input, st
     }
 }
 
+/* The library's seconds of a call on the last input that it was timed on. */
+static double last_seconds(const struct class *class, size_t made)
+{
+    const struct figures *seconds = &class->seconds[made][LIBRARY];
+    return seconds->figure[seconds->count - 1];
+}
+
 /* Times the chain beside Cliquer's: what the library takes longer over this map than over one with no cell set. */
 static void keep_clique(struct class *class, const struct input *input, uint32_t chain)
 {
     static struct answer answer;
     double bare[MOST_SIDES], seconds;
     uint32_t weight;
-    const struct figures *whole = &class->seconds[BOUNDS][LIBRARY];
     end_unless(time_call(call_bare_bounds, input, bare, &answer), "the answers differ", input);
-    double own = whole->figure[whole->count - 1] - bare[LIBRARY];
+    double own = last_seconds(class, BOUNDS) - bare[LIBRARY];
     add(&class->chain_seconds, own > 0 ? own : 0);
     if (class->cliques_left_out >= MOST_LEFT_OUT || !time_clique(input, &seconds, &weight)) {
         class->cliques_left_out++;
@@ -63,13 +70,31 @@ static void keep_clique(struct class *class, const struct input *input, uint32_t
     add(&class->clique_ratio, own > 0 ? own / seconds : 0);
 }
 
-/* Times the bounds, unless the search visits too many sets. */
+/* Times the room call and the chain call for one task beside the bounds, unless the room call visits too many sets. */
+static void keep_growth(struct class *class, const struct input *input)
+{
+    static struct answer answer;
+    if (class->rooms_left_out >= MOST_LEFT_OUT)
+        return;
+    if (sets_visited(call_room_left, input, SETS_OF_ROOM) > SETS_OF_ROOM) {
+        class->rooms_left_out++;
+        return;
+    }
+    keep(class, ROOM_LEFT, input, &answer);
+    end_unless(answer.numbers[0] == 0, "a room call is refused", input);
+    add(&class->bounds_beside_room, last_seconds(class, BOUNDS));
+    add(&class->room_by_bounds, last_seconds(class, ROOM_LEFT) / last_seconds(class, BOUNDS));
+    keep(class, CHAIN_THROUGH, input, &answer);
+    end_unless(answer.numbers[0] == 0, "a chain call is refused", input);
+}
+
+/* Times the bounds, and then what is asked of one task and of each, unless the search visits too many sets. */
 static void keep_bounds(struct class *class, const struct input *input, struct answer *answer)
 {
     uint64_t allowed = class->sets_left < SETS_OF_INPUT ? class->sets_left : SETS_OF_INPUT;
     if (class->left_out >= MOST_LEFT_OUT)
         return;
-    uint64_t visited = sets_visited(input, allowed);
+    uint64_t visited = sets_visited(call_bounds, input, allowed);
     if (visited > allowed) {
         class->left_out++;
         return;
@@ -78,6 +103,7 @@ static void keep_bounds(struct class *class, const struct input *input, struct a
     add(&class->sets, (double)visited);
     keep(class, BOUNDS, input, answer);
     keep_clique(class, input, answer->numbers[3]);
+    keep_growth(class, input);
 }
 
 /* Measures all calls on one input. */
@@ -121,6 +147,8 @@ int main(int argc, char **argv)
     print_summary(classes, class_count);
     printf("\n## The calls, library by plain C\n\n");
     print_calls(classes, class_count);
+    printf("\n## Room left by bounds\n\n");
+    print_room_left(classes, class_count);
     printf("\n## The chain\n\n");
     print_chains(classes, class_count, SETS_OF_INPUT, has_cliquer);
     return 0;

@@ -18,6 +18,20 @@ static void bounds(struct image image, const uint64_t *rows, struct answer *answ
     memcpy(answer->numbers, &found, sizeof found);
 }
 
+/* Finds what room a reserve leaves over a map, in the answer's figures. */
+static void room_left(struct image image, const uint64_t *rows, uint32_t reserve, struct answer *answer)
+{
+    struct plain_verdict verdict = plain_room_left(image.bytes, image.length, rows, 64, reserve, answer->figures, 64);
+    memcpy(answer->numbers, &verdict, sizeof verdict);
+}
+
+/* Shows the heaviest chain through a task over a map, in the answer's ids. */
+static void chain_through(struct image image, const uint64_t *rows, uint32_t id, struct answer *answer)
+{
+    struct plain_shown shown = plain_chain_through(image.bytes, image.length, rows, 64, id, answer->ids, 64);
+    memcpy(answer->numbers, &shown, sizeof shown);
+}
+
 /* Says why the task low may be preempted by the task high, or why not. */
 static void reason(struct image image, uint32_t low, uint32_t high, struct answer *answer)
 {
@@ -43,6 +57,8 @@ static void reverse(struct image patch, struct answer *answer)
 const struct side SIDE = {.name = NAME,
                           .map = map,
                           .bounds = bounds,
+                          .room_left = room_left,
+                          .chain_through = chain_through,
                           .reason = reason,
                           .patch = patch,
                           .reverse = reverse,

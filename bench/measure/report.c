@@ -144,6 +144,41 @@ void print_calls(const struct class *classes, size_t count)
                 print_call(&classes[c], made);
 }
 
+/* Prints the room call of one class by its bound call, both on the inputs that the room call was timed on. */
+static void print_room(const struct class *class)
+{
+    const struct figures *ratio = &class->room_by_bounds;
+    printf("| %s | %zu of %zu ", class->name, ratio->count, class->tables);
+    if (ratio->count == 0)
+        printf("| - | - | - | - |\n");
+    else
+        printf("| %.2f | %.2f | %.2f | %.2f |\n", 1e6 * median(&class->bounds_beside_room),
+               1e6 * median(&class->seconds[ROOM_LEFT][LIBRARY]), median(ratio), worst(ratio));
+}
+
+/* Says what the medians of all classes reach at most, and what they are to stay below. */
+static void print_largest_median(const struct class *classes, size_t count)
+{
+    struct figures medians = {.count = 0};
+    for (size_t c = 0; c < count; c++)
+        if (classes[c].room_by_bounds.count > 0)
+            add(&medians, median(&classes[c].room_by_bounds));
+    if (medians.count > 0)
+        printf("\nThe largest of these medians is %.2f; they are to be under 20.\n", worst(&medians));
+}
+
+/* Prints a row for each class of tables: the library's room call by its bound call on the same input. */
+void print_room_left(const struct class *classes, size_t count)
+{
+    printf("| Inputs | Calls timed | Bounds, microseconds | Room left, microseconds "
+           "| Room left by bounds: median | worst |\n");
+    printf("|---|---|---|---|---|---|\n");
+    for (size_t c = 0; c < count; c++)
+        if (classes[c].tables > 0)
+            print_room(&classes[c]);
+    print_largest_median(classes, count);
+}
+
 /* Prints the chain of one class beside Cliquer's. */
 static void print_clique(const struct class *class)
 {

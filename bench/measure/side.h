@@ -9,6 +9,7 @@ struct answer {
     uint32_t numbers[8];
     uint64_t rows[64];
     uint16_t ids[64];
+    int64_t figures[64];
     uint8_t room[MOST_IMAGE_BYTES];
 };
 
@@ -23,6 +24,8 @@ struct side {
     const char *name;
     void (*map)(struct image image, size_t row_count, struct answer *answer);
     void (*bounds)(struct image image, const uint64_t *map, struct answer *answer);
+    void (*room_left)(struct image image, const uint64_t *map, uint32_t reserve, struct answer *answer);
+    void (*chain_through)(struct image image, const uint64_t *map, uint32_t id, struct answer *answer);
     void (*reason)(struct image image, uint32_t low, uint32_t high, struct answer *answer);
     void (*patch)(struct image base, struct image patch, const uint64_t *map, struct answer *answer);
     void (*reverse)(struct image patch, struct answer *answer);

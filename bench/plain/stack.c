@@ -68,22 +68,35 @@ static uint32_t level_bound(const struct tasks *tasks)
     return sum;
 }
 
+/* Reads the tasks of an accepted table and relates them by the map. */
+static void read_related(const uint8_t *image, const struct judged *table, const uint64_t *map, struct tasks *tasks,
+                         struct setting *setting)
+{
+    read_tasks(image, table, tasks);
+    setting->sizes = tasks->sizes;
+    relate_rows(tasks, map, setting->rows);
+}
+
+/* Writes the ids of the best chain. */
+static void write_ids(const struct tasks *tasks, const struct chains *chains, uint16_t *ids)
+{
+    for (size_t k = 0; k < chains->best_length; k++)
+        ids[k] = (uint16_t)tasks->ids[chains->best[k]];
+}
+
 /* The answer of an accepted call, with the chain's ids written to the room. */
 static struct plain_bounds find(const uint8_t *image, const struct judged *table, const uint64_t *map, uint16_t *ids)
 {
     struct tasks tasks;
     struct setting setting;
     struct chains chains;
-    read_tasks(image, table, &tasks);
-    setting.sizes = tasks.sizes;
-    relate_rows(&tasks, map, setting.rows);
+    read_related(image, table, map, &tasks, &setting);
     order_by_falling(tasks.priorities, tasks.count, setting.order);
     find_heaviest(&setting, tasks.count, &chains);
     uint32_t path = path_bound(&setting, all_below(tasks.count));
     uint32_t transactions = transaction_bound(image, table->transactions, &tasks, &setting);
     uint32_t levels = level_bound(&tasks);
-    for (size_t k = 0; k < chains.best_length; k++)
-        ids[k] = (uint16_t)tasks.ids[chains.best[k]];
+    write_ids(&tasks, &chains, ids);
     return (struct plain_bounds){.tasks = (uint32_t)tasks.count, .chain = chains.best_weight, .path = path,
                                  .transactions = transactions, .levels = levels,
                                  .length = (uint32_t)chains.best_length};

@@ -15,6 +15,7 @@ public final class Siodlomil {
     public static final int PATCH_BYTES = 23040;
     public static final int MAP_ROWS = 64;
     public static final int CHAIN_IDS = 64;
+    public static final int ROOM_FIGURES = 64;
 
     private static final String[] REASONS = {"", "transaction", "jitter", "response", "priority", "pair", "timing"};
 
@@ -56,6 +57,17 @@ public final class Siodlomil {
             transactions = of[5];
             levels = of[6];
             length = of[7];
+        }
+    }
+
+    public static final class Through extends Answer {
+        public final int weight;
+        public final int length;
+
+        private Through(int[] of) {
+            super(of);
+            weight = of[2];
+            length = of[3];
         }
     }
 
@@ -112,6 +124,18 @@ public final class Siodlomil {
         return new Bounds(callBounds(image, map, ids));
     }
 
+    /** The reserve is 0 to 4,294,967,295; any other throws IllegalArgumentException. */
+    public static Answer roomLeft(byte[] image, long[] map, long reserve, long[] room) {
+        if (reserve < 0 || 4_294_967_295L < reserve) {
+            throw new IllegalArgumentException("siodlomil: " + reserve + " is no reserve from 0 to 4294967295");
+        }
+        return new Answer(callRoomLeft(image, map, (int) reserve, room));
+    }
+
+    public static Through chainThrough(byte[] image, long[] map, int id, short[] ids) {
+        return new Through(callChainThrough(image, map, id, ids));
+    }
+
     public static Reason reason(byte[] image, int low, int high) {
         return new Reason(callReason(image, low, high));
     }
@@ -131,6 +155,10 @@ public final class Siodlomil {
     private static native int[] callMap(byte[] image, long[] map);
 
     private static native int[] callBounds(byte[] image, long[] map, short[] ids);
+
+    private static native int[] callRoomLeft(byte[] image, long[] map, int reserve, long[] room);
+
+    private static native int[] callChainThrough(byte[] image, long[] map, int id, short[] ids);
 
     private static native int[] callReason(byte[] image, int low, int high);
 

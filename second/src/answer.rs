@@ -9,11 +9,13 @@ use crate::preempt::{all_reasons, MAP_ROWS};
 use crate::reason_call::reason_call;
 use crate::reasons::Reason;
 use crate::reverse_call::reverse_call;
+use crate::room_call::room_call;
 use crate::round_trip::RoundTrip;
 use crate::stream::question::Question;
 use crate::stream::step::Step;
 use crate::stream::{Call, Case};
 use crate::table::Table;
+use crate::through_call::through_call;
 use crate::verdict::{records_of_patch, records_of_table, Refusal};
 
 /// What stands for number and place where a call is accepted.
@@ -32,6 +34,7 @@ pub fn answer(case: &mut Case) -> String {
         Call::Reasons => line(letter, reason_numbers(case)) + &parts_of_questions(case),
         Call::Reverse => line(letter, reverse_numbers(case)),
         Call::RoundTrip => line_of_trip(case),
+        Call::RoomLeft => line(letter, room_numbers(case)) + &part(through_numbers(case)),
     }
 }
 
@@ -220,4 +223,29 @@ fn parts_of_questions(case: &Case) -> String {
         part(numbers)
     };
     case.map_read.iter().map(part_of).collect()
+}
+
+/// Number and place of a room call, and the digest of the room for figures.
+fn room_numbers(case: &mut Case) -> Vec<u64> {
+    let lent = case.map_written.iter();
+    let mut figures: Vec<i64> = lent.map(|bits| *bits as i64).collect();
+    let given = room_call(
+        &case.image,
+        &case.map_read,
+        case.asked.reserve,
+        &mut figures,
+    );
+    case.map_written = figures.into_iter().map(|figure| figure as u64).collect();
+    let mut numbers = verdict_numbers(given);
+    numbers.push(digest::of_rows(&case.map_written));
+    numbers
+}
+
+/// Number and place of the chain call for one task, the chain's weight and length, and the digest of the room for ids.
+fn through_numbers(case: &mut Case) -> Vec<u64> {
+    let given = through_call(&case.image, &case.map_read, case.asked.id, &mut case.ids);
+    let shown = given.unwrap_or_default();
+    let mut numbers = verdict_numbers(given);
+    numbers.extend([shown.weight, shown.length as u64, digest::of_ids(&case.ids)]);
+    numbers
 }

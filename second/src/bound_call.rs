@@ -31,7 +31,7 @@ pub fn bound_call(image: &[u8], map: &[u64], ids: &mut [u16]) -> Result<Bounds, 
     let chain = heaviest_chain(&relation);
     let bounds = Bounds {
         tasks: table.tasks.len(),
-        chain: chain.iter().map(|place| relation.stack[*place]).sum(),
+        chain: relation.weight_of(&chain),
         path: relation.path(),
         transactions: relation.transactions(&table.tasks),
         levels: levels(&table.tasks),

@@ -38,6 +38,11 @@ impl Relation {
         (0..self.stack.len()).fold(0, |set, place| set | 1 << place)
     }
 
+    /// The weight of a chain, given by its places.
+    pub fn weight_of(&self, chain: &[usize]) -> u64 {
+        chain.iter().map(|place| self.stack[*place]).sum()
+    }
+
     /// The largest sum over lists of these places in which neighbours are related.
     fn heaviest_path(&self, allowed: u64) -> u64 {
         let mut from = vec![0; self.stack.len()];

@@ -13,21 +13,29 @@ use second::figure2::{figure2, precedence, thresholds, unmeasured};
 use second::generate::{write_stream, Wanted};
 use second::heaviest::heaviest;
 use second::numbered_cases::{patch_of, runs_of};
-use second::report::{bounds_report, reasons_report};
+use second::report::{bounds_report, reasons_report, room_report};
 use second::simulate::simulate;
 use second::sorts::Sorts;
 use second::stream::Case;
 use second::table::Table;
 
 const USAGE: &str =
-    "usage: second bounds | reasons | generate SEED LETTERS COUNT | answer | sorts | figure2 \
+    "usage: second bounds | reasons | room RESERVE | generate SEED LETTERS COUNT | answer | sorts | figure2 \
                      | unmeasured | thresholds | precedence | heaviest | cancelled | patch NUMBER \
                      | case NUMBER | simulate SEED COUNT \
-                     (LETTERS are some of T, P, M, B, A, R, W, V, U and L; NUMBER is 11, 12 or 13)";
+                     (RESERVE is a number of decimal digits from 0 to 4294967295; \
+                     LETTERS are some of T, P, M, B, A, R, W, V, U, G and L; \
+                     NUMBER is 11, 12 or 13)";
+
+/// Digits that a reserve may have, leading zeros among them.
+const LONGEST_RESERVE: usize = 32;
 
 /// What the command line asks for.
 enum Command {
     Report(fn(&[u8]) -> String),
+    Room {
+        reserve: u32,
+    },
     Generate {
         seed: u64,
         wanted: Vec<Wanted>,
@@ -65,6 +73,9 @@ fn command_from(words: &[&str]) -> Option<Command> {
     match words {
         ["bounds"] => Some(Command::Report(bounds_report)),
         ["reasons"] => Some(Command::Report(reasons_report)),
+        ["room", reserve] => Some(Command::Room {
+            reserve: reserve_from(reserve)?,
+        }),
         ["answer"] => Some(Command::Answer),
         ["sorts"] => Some(Command::Sorts),
         ["figure2"] => Some(Command::Table(figure2())),
@@ -88,6 +99,15 @@ fn command_from(words: &[&str]) -> Option<Command> {
     }
 }
 
+/// The reserve that this word says: decimal digits alone, at most 32 of them, of a number of 32 bits.
+fn reserve_from(word: &str) -> Option<u32> {
+    let are_digits = word.bytes().all(|byte| byte.is_ascii_digit());
+    if !are_digits || word.len() > LONGEST_RESERVE {
+        return None;
+    }
+    word.parse().ok()
+}
+
 /// What these letters ask for, if every letter asks for something and there is at least one.
 fn wanted_from(letters: &str) -> Option<Vec<Wanted>> {
     let wanted: Option<Vec<Wanted>> = letters.bytes().map(Wanted::from_letter).collect();
@@ -99,6 +119,9 @@ fn run(command: Command) -> io::Result<()> {
     let mut output = BufWriter::new(io::stdout().lock());
     match command {
         Command::Report(report) => output.write_all(report(&read_image(&mut input)?).as_bytes())?,
+        Command::Room { reserve } => {
+            output.write_all(room_report(&read_image(&mut input)?, reserve).as_bytes())?;
+        }
         Command::Generate {
             seed,
             wanted,

@@ -9,10 +9,8 @@ use crate::verdict::{records_of_table, Refusal, UNLISTED_ID};
 pub fn reason_call(image: &[u8], low: u32, high: u32) -> Result<Reason, Refusal> {
     let table = Table::read(&records_of_table(image)?);
     let listed = |id: u32| {
-        let mut tasks = table.tasks.iter();
-        tasks
-            .find(|task| u32::from(task.id) == id)
-            .ok_or(UNLISTED_ID)
+        let place = table.place_of_named(id).ok_or(UNLISTED_ID)?;
+        Ok(&table.tasks[place])
     };
     Ok(reason_for(&table, listed(low)?, listed(high)?))
 }

@@ -1,10 +1,12 @@
-//! What the commands `bounds` and `reasons` print.
+//! What the commands `bounds`, `reasons` and `room` print.
 
 use crate::bound_call::{bound_call, Bounds, ID_ENTRIES};
 use crate::map_call::map_call;
 use crate::preempt::MAP_ROWS;
 use crate::reason_call::reason_call;
-use crate::verdict::Refusal;
+use crate::room_call::{room_call, FIGURE_ENTRIES};
+use crate::table::Table;
+use crate::verdict::{records_of_table, Refusal};
 
 /// The lines for an image: its bounds with its own map, or its refusal.
 pub fn bounds_report(image: &[u8]) -> String {
@@ -14,6 +16,11 @@ pub fn bounds_report(image: &[u8]) -> String {
 /// The lines for an image: the reasons of the neighbours in its chain, or its refusal.
 pub fn reasons_report(image: &[u8]) -> String {
     lines_or_refusal(reason_lines(image))
+}
+
+/// The lines for an image: what each task has left of the reserve with the table's own map, or its refusal.
+pub fn room_report(image: &[u8], reserve: u32) -> String {
+    lines_or_refusal(room_lines(image, reserve))
 }
 
 fn lines_or_refusal(given: Result<String, Refusal>) -> String {
@@ -48,4 +55,17 @@ fn reason_lines(image: &[u8]) -> Result<String, Refusal> {
         Ok(format!("{low} {high} {}\n", reason.word()))
     };
     chain.iter().zip(chain.iter().skip(1)).map(line).collect()
+}
+
+/// One line for each task, by rising id: the id, and the reserve less the weight of the heaviest chain that contains it.
+fn room_lines(image: &[u8], reserve: u32) -> Result<String, Refusal> {
+    let mut map = [0; MAP_ROWS];
+    map_call(image, &mut map)?;
+    let mut figures = [0; FIGURE_ENTRIES];
+    room_call(image, &map, reserve, &mut figures)?;
+    let table = Table::read(&records_of_table(image)?);
+    let lines = table.tasks.iter().zip(figures);
+    Ok(lines
+        .map(|(task, figure)| format!("{} {figure}\n", task.id))
+        .collect())
 }

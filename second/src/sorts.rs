@@ -4,6 +4,7 @@ mod circles;
 mod patch_calls;
 mod precedences;
 mod reverses;
+mod rooms_left;
 mod round_trips;
 mod runs;
 mod tables;
@@ -37,6 +38,7 @@ impl Sorts {
             Call::Run => runs::told(case),
             Call::Reverse => [reverses::told(case), circles::told_of_patch(case)].concat(),
             Call::RoundTrip => round_trips::told(case),
+            Call::RoomLeft => rooms_left::told(case),
         };
         for (rank, (name, holds)) in told.into_iter().enumerate() {
             let counted = self.counts.entry((case.call.letter(), rank));

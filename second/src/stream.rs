@@ -1,5 +1,6 @@
 //! The stream of cases: one header of 32 bytes for each case and then everything that is lent.
 
+pub mod asked;
 pub mod parts;
 pub mod question;
 pub mod step;
@@ -7,6 +8,7 @@ pub mod step;
 use std::io::{self, Read, Write};
 
 use crate::afresh::Afresh;
+use crate::stream::asked::Asked;
 use crate::stream::parts::{
     broken, lengths_in, put_lengths, read_bytes, read_ids, read_rows, Length, MOST_IMAGE,
     MOST_ROOM, MOST_ROWS,
@@ -31,6 +33,7 @@ pub enum Call {
     Reasons,
     Reverse,
     RoundTrip,
+    RoomLeft,
 }
 
 impl Call {
@@ -46,6 +49,7 @@ impl Call {
             b'W' => Some(Call::Reasons),
             b'V' => Some(Call::Reverse),
             b'U' => Some(Call::RoundTrip),
+            b'G' => Some(Call::RoomLeft),
             _ => None,
         }
     }
@@ -62,6 +66,7 @@ impl Call {
             Call::Reasons => b'W',
             Call::Reverse => b'V',
             Call::RoundTrip => b'U',
+            Call::RoomLeft => b'G',
         }
     }
 
@@ -89,6 +94,11 @@ impl Call {
         self != Call::RoundTrip
     }
 
+    /// Whether a reserve and an id stand in the header, where other calls have their last two lengths.
+    fn asks_for_a_task(self) -> bool {
+        self == Call::RoomLeft
+    }
+
     /// Whether the case has to start from a valid table and its true map.
     fn starts_from_truth(self) -> bool {
         matches!(self, Call::Run | Call::RoundTrip)
@@ -104,10 +114,13 @@ pub struct Case {
     pub patch: Vec<u8>,
     /// The rows of the map that is read, or the questions of a case that asks for reasons.
     pub map_read: Vec<u64>,
+    /// The rows of the map that is written, or the bits of the room for figures of a case that asks for room left.
     pub map_written: Vec<u64>,
     pub ids: Vec<u16>,
     pub room: Vec<u8>,
     pub steps: Vec<Step>,
+    /// The reserve and the id of a case that asks for room left.
+    pub asked: Asked,
 }
 
 impl Case {
@@ -122,6 +135,7 @@ impl Case {
             ids: Vec::new(),
             room: Vec::new(),
             steps: Vec::new(),
+            asked: Asked::default(),
         }
     }
 
@@ -139,6 +153,9 @@ impl Case {
         let mut header = [0; HEADER_BYTES];
         header[0] = self.call.letter();
         put_lengths(&mut header, &self.call.lengths(), lengths);
+        if self.call.asks_for_a_task() {
+            self.asked.put(&mut header);
+        }
         let (map_written, room) = match self.call.tells_what_is_written() {
             true => (&self.map_written[..], &self.room[..]),
             false => (&[][..], &[][..]),
@@ -158,11 +175,15 @@ impl Case {
 
     /// The next case of a stream, or none where the stream ends between two cases.
     pub fn read(input: &mut impl Read) -> io::Result<Option<Case>> {
-        let Some(header) = read_header(input)? else {
+        let Some(mut header) = read_header(input)? else {
             return Ok(None);
         };
         let call = Call::from_letter(header[0]).ok_or_else(|| broken("a letter without a call"))?;
         let is_told = call.tells_what_is_written();
+        let asked = match call.asks_for_a_task() {
+            true => Asked::take(&mut header),
+            false => Asked::default(),
+        };
         let [image, patch, map_read, map_written, ids, room, steps] =
             lengths_in(&header, &call.lengths())?;
         let case = Case {
@@ -182,6 +203,7 @@ impl Case {
             steps: (0..steps)
                 .map(|_| Step::read(input))
                 .collect::<io::Result<_>>()?,
+            asked,
         };
         match case.starts_rightly() {
             true => Ok(Some(case)),

@@ -75,4 +75,9 @@ impl Table {
     pub fn place_of(&self, id: u16) -> Option<usize> {
         self.tasks.iter().position(|task| task.id == id)
     }
+
+    /// The place of the task with the id that a call names in 32 bits, if it is listed.
+    pub fn place_of_named(&self, id: u32) -> Option<usize> {
+        self.place_of(u16::try_from(id).ok()?)
+    }
 }

@@ -17,7 +17,7 @@ pub struct Refusal {
 pub const BAD_OUTCOME: Refusal = Refusal::new(10, 0);
 /// A refusal at place 0: a lent map or room is too short.
 pub const TOO_SHORT: Refusal = Refusal::new(11, 0);
-/// A refusal at place 0: an id that a reason is asked for is not listed.
+/// A refusal at place 0: an id that is asked for is not listed.
 pub const UNLISTED_ID: Refusal = Refusal::new(15, 0);
 
 impl Refusal {

@@ -14,6 +14,8 @@ use second::numbered_cases::patch_of;
 use second::patch_call::patch_call;
 use second::reason_call::reason_call;
 use second::reverse_call::reverse_call;
+use second::room_call::room_call;
+use second::through_call::through_call;
 use second::verdict::{records_of_table, Refusal};
 
 /// An image with 45 blocks, as many as a patch can have: it takes out and puts in a full table.
@@ -116,16 +118,21 @@ fn every_call_refuses_a_changed_table_and_writes_nothing() {
     for change in some_changes_of(&image) {
         let changed = with_changes(&image, &[change]);
         let (mut map, mut ids, mut room, mut new_map) = ([7; 64], [7; 64], [7; 1024], [7; 64]);
+        let mut figures = [7; 64];
         assert_eq!(map_call(&changed, &mut map), Err(refused));
         assert_eq!(bound_call(&changed, &map, &mut ids), Err(refused));
+        assert_eq!(room_call(&changed, &map, 8, &mut figures), Err(refused));
+        assert_eq!(through_call(&changed, &map, 11, &mut ids), Err(refused));
         let called = patch_call(&changed, &patch, &map, &mut room, &mut new_map);
         assert_eq!(called, Err(refused.into()));
         assert_eq!(
-            (map, ids, room, new_map),
-            ([7; 64], [7; 64], [7; 1024], [7; 64])
+            (map, ids, figures, room, new_map),
+            ([7; 64], [7; 64], [7; 64], [7; 1024], [7; 64])
         );
         assert_eq!(map_call(&changed, &mut []), Err(refused));
         assert_eq!(bound_call(&changed, &[], &mut []), Err(refused));
+        assert_eq!(room_call(&changed, &[], 0, &mut []), Err(refused));
+        assert_eq!(through_call(&changed, &[], 0, &mut []), Err(refused));
         assert_eq!(reason_call(&changed, 11, 12), Err(refused));
         assert_eq!(reason_call(&changed, 0, 0), Err(refused));
         assert_eq!(

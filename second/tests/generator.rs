@@ -92,7 +92,7 @@ fn refusals_are_met_at_low_and_high_places() {
 
 /// The stream of this seed over all calls.
 fn stream(seed: u64, count: usize) -> Vec<u8> {
-    let wanted: Vec<Wanted> = b"TPMBARWVUL"
+    let wanted: Vec<Wanted> = b"TPMBARWVUGL"
         .iter()
         .copied()
         .filter_map(Wanted::from_letter)

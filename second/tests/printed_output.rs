@@ -13,6 +13,7 @@ use second::table::Table;
 
 const FIGURE_2: &str = "tasks 6\nchain 8: 11 12 23\npath 10\ntransactions 9\nlevels 10\n";
 const FIGURE_2_REASONS: &str = "11 12 response\n12 23 transaction\n";
+const FIGURE_2_ROOM: &str = "11 4\n12 4\n13 6\n21 5\n22 6\n23 4\n";
 
 /// Each task nests in all of lower priority: 4 + 1 + 3 + 2, and 4 + 1 + 2 and 1 + 3 by transactions.
 const UNMEASURED: &str = "tasks 6\nchain 10: 11 12 23 13\npath 10\ntransactions 11\nlevels 10\n";
@@ -27,7 +28,7 @@ const PRECEDENCE: &str = "tasks 6\nchain 6: 11 21\npath 8\ntransactions 8\nlevel
 const PRECEDENCE_REASONS: &str = "11 21 transaction\n";
 
 /// The commands that print what they say of one image, and read all of their input for it.
-const REPORTS: [&str; 2] = ["bounds", "reasons"];
+const REPORTS: [&[&str]; 3] = [&["bounds"], &["reasons"], &["room", "12"]];
 
 /// Runs the program with these arguments and this input.
 fn run(arguments: &[&str], input: &[u8]) -> Output {
@@ -39,7 +40,7 @@ fn run(arguments: &[&str], input: &[u8]) -> Output {
         .spawn()
         .expect("the program starts");
     let written = child.stdin.take().expect("an input").write_all(input);
-    let reads_all = arguments.iter().any(|word| REPORTS.contains(word));
+    let reads_all = REPORTS.contains(&arguments);
     assert!(written.is_ok() || !reads_all);
     child.wait_with_output().expect("the program ends")
 }
@@ -53,6 +54,7 @@ fn figure_2_is_printed_exactly() {
     let image = table_image(&figure2());
     assert_eq!(printed(&["bounds"], &image), FIGURE_2);
     assert_eq!(printed(&["reasons"], &image), FIGURE_2_REASONS);
+    assert_eq!(printed(&["room", "12"], &image), FIGURE_2_ROOM);
 }
 
 #[test]
@@ -62,6 +64,8 @@ fn figure_2_is_the_example_and_the_command() {
     assert_eq!(printed(&["bounds"], example), FIGURE_2);
     let reasons = include_str!("../../examples/figure2.reasons.txt");
     assert_eq!(printed(&["reasons"], example), reasons);
+    let room = include_str!("../../examples/figure2.room.txt");
+    assert_eq!(printed(&["room", "12"], example), room);
 }
 
 #[test]
@@ -177,41 +181,89 @@ fn the_longest_chain_prints_63_reasons() {
     assert_eq!(printed(&["reasons"], &table_image(&heaviest())), lines);
 }
 
+/// The lines of a table whose tasks 1 to count have all the same figure.
+fn equal_figures(count: u16, figure: i64) -> String {
+    (1..=count).map(|id| format!("{id} {figure}\n")).collect()
+}
+
+#[test]
+fn room_has_a_sign_where_the_reserve_is_too_small() {
+    let image = table_image(&heaviest());
+    let figures = [
+        ("0", -4_194_240),
+        ("4194239", -1),
+        ("4194240", 0),
+        ("4194241", 1),
+        ("4294967295", 4_290_773_055),
+    ];
+    for (reserve, figure) in figures {
+        assert_eq!(
+            printed(&["room", reserve], &image),
+            equal_figures(64, figure)
+        );
+    }
+}
+
+#[test]
+fn no_tasks_have_no_room() {
+    let image = table_image(&Table::default());
+    assert_eq!(printed(&["room", "0"], &image), "");
+}
+
+#[test]
+fn a_reserve_may_have_leading_zeros_in_32_digits() {
+    let image = table_image(&figure2());
+    for reserve in ["012", &format!("{:032}", 12)] {
+        assert_eq!(printed(&["room", reserve], &image), FIGURE_2_ROOM);
+    }
+    for reserve in [
+        "4294967296",
+        "",
+        "-1",
+        "+1",
+        "1 ",
+        "0x1",
+        &format!("{:033}", 12),
+    ] {
+        assert_eq!(run(&["room", reserve], &[]).status.code(), Some(2));
+    }
+}
+
 #[test]
 fn a_refusal_is_one_line() {
     for report in REPORTS {
-        assert_eq!(printed(&[report], &[]), "refused 1 at 0\n");
+        assert_eq!(printed(report, &[]), "refused 1 at 0\n");
         let mut image = table_image(&figure2());
         image[510] ^= 1;
-        assert_eq!(printed(&[report], &image), "refused 2 at 0\n");
+        assert_eq!(printed(report, &image), "refused 2 at 0\n");
         image[8] = 9;
         second::blocks::mend_checks(&mut image);
-        assert_eq!(printed(&[report], &image), "refused 4 at 0\n");
+        assert_eq!(printed(report, &image), "refused 4 at 0\n");
         let mut circle = figure2();
         circle.pairs = vec![precedence(21, 22), precedence(22, 21)];
-        assert_eq!(
-            printed(&[report], &table_image(&circle)),
-            "refused 14 at 21\n"
-        );
+        assert_eq!(printed(report, &table_image(&circle)), "refused 14 at 21\n");
     }
 }
 
 #[test]
 fn input_past_the_longest_table_is_refusal_1() {
     for report in REPORTS {
-        assert_eq!(printed(&[report], &[0; 11_776]), "refused 3 at 0\n");
-        assert_eq!(printed(&[report], &[0; 11_777]), "refused 1 at 0\n");
-        assert_eq!(printed(&[report], &vec![0; 2_000_000]), "refused 1 at 0\n");
+        assert_eq!(printed(report, &[0; 11_776]), "refused 3 at 0\n");
+        assert_eq!(printed(report, &[0; 11_777]), "refused 1 at 0\n");
+        assert_eq!(printed(report, &vec![0; 2_000_000]), "refused 1 at 0\n");
     }
 }
 
 #[test]
 fn wrong_usage_is_told_on_standard_error() {
-    let wrong: [&[&str]; 13] = [
+    let wrong: [&[&str]; 16] = [
         &[],
         &["other"],
         &["bounds", "more"],
         &["reasons", "more"],
+        &["room"],
+        &["room", "twelve"],
+        &["room", "12", "more"],
         &["generate", "1", "T"],
         &["generate", "1", "TX", "3"],
         &["generate", "1", "", "3"],

@@ -4,6 +4,9 @@ use image::bytes::byte_at;
 
 const MODULUS: u64 = 4_294_967_291;
 
+// The bits of -1.
+const ALL_BITS: u64 = 18_446_744_073_709_551_615;
+
 // The digest with one byte more.
 fn with_byte(digest: u64, byte: u64) -> u64
     requires { ⌜ (digest < 4294967291) × (byte < 256) ⌝ }
@@ -63,6 +66,27 @@ pub fn of_ids(ids: &[u16]) -> u64
     while k < ids.len() {
         let id = ids[k];
         sum = with_number(sum, id as u64, 2);
+        k += 1;
+    }
+    sum
+}
+
+// The bits that say this signed number.
+fn bits_of(number: i64) -> u64 {
+    if 0 <= number {
+        return number as u64;
+    }
+    ALL_BITS - ((-1 - number) as u64)
+}
+
+// The digest of a room for figures.
+pub fn of_figures(figures: &[i64]) -> u64
+    ensures { λ r. ⌜ r < 4294967291 ⌝ }
+{
+    let mut sum: u64 = 1;
+    let mut k: usize = 0;
+    while k < figures.len() {
+        sum = with_number(sum, bits_of(figures[k]), 8);
         k += 1;
     }
     sum

@@ -1,6 +1,7 @@
 // A test program: reads a stream of cases (docs/STREAM.md) from standard input and prints the answer to each.
 mod bounds;
 mod digest;
+mod growth;
 mod maps;
 mod patches;
 mod print;
@@ -46,6 +47,7 @@ fn answer_next() -> bool {
         b'A' => patches::answer(lent),
         b'V' => reverses::answer(image_bytes, room_bytes),
         b'U' => trips::answer(lent),
+        b'G' => growth::answer(growth::asked_by(&header)),
         b'W' => reasons::answer(image_bytes, read_rows),
         b'R' => runs::answer(image_bytes, read_rows, four_bytes(&header, 28)),
         _ => false,

@@ -6,6 +6,11 @@ use image::bytes::four_bytes;
 use image::bytes::two_bytes;
 use libc::STDIN_FILENO;
 
+// The least bits of a negative number, and the bits of -1.
+const SIGN: u64 = 9_223_372_036_854_775_808;
+
+const ALL_BITS: u64 = 18_446_744_073_709_551_615;
+
 // Room for the longest image. The promise gives only the length, which lending it as a slice needs.
 pub fn image() -> [u8; 24_576]
     ensures { λ r. ⌜ 24576 ≡ length r ⌝ }
@@ -25,6 +30,13 @@ pub fn ids() -> [u16; 96]
     ensures { λ r. ⌜ 96 ≡ length r ⌝ }
 {
     [0; 96]
+}
+
+// Room for the most figures.
+pub fn figures() -> [i64; 80]
+    ensures { λ r. ⌜ 80 ≡ length r ⌝ }
+{
+    [0; 80]
 }
 
 // Room for the reasons of all pairs of places.
@@ -130,5 +142,43 @@ pub fn fill_ids(ids: &mut [u16], count: usize) -> usize
         return 0;
     }
     set_ids(ids, &bytes, count);
+    count
+}
+
+// The signed number that these bits say.
+fn signed_of(bits: u64) -> i64 {
+    if bits < SIGN {
+        return bits as i64;
+    }
+    -1 - ((ALL_BITS - bits) as i64)
+}
+
+// Sets the first count figures from their bytes.
+fn set_figures(figures: &mut [i64], bytes: &[u8], count: usize)
+    requires { ⌜ (count ≤ length (now figures)) × (count ≤ 80) ⌝ }
+{
+    let mut k: usize = 0;
+    while k < count {
+        let figure = signed_of(eight_bytes(bytes, 8 * k));
+        figures[k] = figure;
+        k += 1;
+    }
+}
+
+// Reads count figures to the start of a room and answers how many came: none where the stream or the room ends before.
+pub fn fill_figures(figures: &mut [i64], count: usize) -> usize
+    ensures { λ r. ⌜ r ≤ length (now (figures .exit)) ⌝ }
+{
+    if 80 < count {
+        return 0;
+    }
+    if figures.len() < count {
+        return 0;
+    }
+    let mut bytes = row_bytes();
+    if fill(&mut bytes, 8 * count) < 8 * count {
+        return 0;
+    }
+    set_figures(figures, &bytes, count);
     count
 }

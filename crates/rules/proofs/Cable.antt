@@ -9,7 +9,7 @@ use Rattle.rules.specs.declared.Form.the-variants.{Table, Patch}
 use Rattle.rules.specs.Numbers.{Bytes}
 use Rattle.rules.specs.Blocks.{blockCount, blockAt, checkWrong}
 use Rattle.rules.specs.Refusals.{accepted, refusal, numbered, frameVerdict, tableVerdict, patchVerdict, imageVerdict}
-use Rattle.rules.specs.Calls.{mapVerdict, mapAfter, boundVerdict, reasonVerdict, patchCallVerdict, reverseVerdict}
+use Rattle.rules.specs.Calls.{mapVerdict, mapAfter, boundVerdict, roomLeftVerdict, throughVerdict, reasonVerdict, patchCallVerdict, reverseVerdict}
 use Rattle.rules.specs.Cable.{changedOver, Caught}
 use Rattle.rules.proofs.Image.Frame.{frame-accepted, frame-of, length-blockAt}
 use Rattle.rules.proofs.Cable.Blocks.{OneBlockWrong, byte-wrong, neighbours-wrong, frame-refused}
@@ -20,13 +20,18 @@ pub mod Cancelled
 
 -- a refusal of the frame with 2 at block b is what every call answers
 frame-caught : (form : Form) (image : List ℕ) (b : ℕ) → frameVerdict form image ≡ refusal (numbered form 2) b → Caught form image b
-unfolding tableVerdict patchVerdict mapVerdict mapAfter boundVerdict reasonVerdict patchCallVerdict reverseVerdict
+unfolding tableVerdict patchVerdict mapVerdict mapAfter boundVerdict roomLeftVerdict throughVerdict reasonVerdict patchCallVerdict reverseVerdict
 frame-caught Table image b h =
     record {
       verdict = rw h;
       map-call = λ rows. (rw h, rw h);
       bound-call =
           λ rows ids answer later call.
+          let (answered, kept) = call .refused (rw h) in
+          (answered ∙ rw h, kept);
+      room-call = λ rows reserve room answer later call. (call .answered ∙ rw h, call .refused (rw h));
+      through-call =
+          λ rows id ids answer later call.
           let (answered, kept) = call .refused (rw h) in
           (answered ∙ rw h, kept);
       reason-call = λ low high. rw h;

@@ -7,6 +7,8 @@ pub mod Maps
 pub mod Reasons
 pub mod Distance
 pub mod Blocks
+pub mod Over
+pub mod Signed
 pub mod Refusals
 pub mod Image
 pub mod Table
@@ -18,6 +20,7 @@ pub mod Thresholds
 pub mod Related
 pub mod FourBounds
 pub mod Enumerate
+pub mod Through
 pub mod Cases
 pub mod Enough
 pub mod Cable

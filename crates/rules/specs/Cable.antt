@@ -4,11 +4,14 @@ use mathlib.Core.List.{List, []}
 use mathlib.Core.Bool.{true}
 use mathlib.Core.Path.{_≡_}
 use lib.ListN.{getD, set}
+use lib.IntN.{ℤ}
 use Rattle.rules.specs.declared.Form.{Form}
 use Rattle.rules.specs.declared.Form.the-variants.{Table, Patch}
+use Rattle.rules.specs.declared.Verdict.{Verdict}
 use Rattle.rules.specs.declared.Bounds.{Bounds}
+use Rattle.rules.specs.declared.Shown.{Shown}
 use Rattle.rules.specs.Refusals.{accepted, refusal, tableVerdict, patchVerdict}
-use Rattle.rules.specs.Calls.{mapVerdict, mapAfter, boundRefusal, BoundCall, reasonRefusal, reasonAnswer, patchCallVerdict, patchRefusal, patchAnswer, roomAfter, patchedAfter, offending, reverseRefusal, reverseAnswer, reverseAfter}
+use Rattle.rules.specs.Calls.{mapVerdict, mapAfter, boundRefusal, BoundCall, RoomLeftCall, throughRefusal, ThroughCall, reasonRefusal, reasonAnswer, patchCallVerdict, patchRefusal, patchAnswer, roomAfter, patchedAfter, offending, reverseRefusal, reverseAnswer, reverseAfter}
 
 -- bytes i and i + 1 changed over with each other
 abbrev pub changedOver : List ℕ → ℕ → List ℕ
@@ -30,6 +33,12 @@ pub record TableCaught (image : List ℕ) (b : ℕ) : Type 0 where
   pub bound-call :
       (rows ids : List ℕ) (answer : Bounds) (later : List ℕ) → BoundCall image rows ids answer later
       → (answer ≡ boundRefusal (refusal 2 b)) × (later ≡ ids)
+  pub room-call :
+      (rows : List ℕ) (reserve : ℕ) (room : List ℤ) (answer : Verdict) (later : List ℤ) → RoomLeftCall image rows reserve room answer later
+      → (answer ≡ refusal 2 b) × (later ≡ room)
+  pub through-call :
+      (rows : List ℕ) (id : ℕ) (ids : List ℕ) (answer : Shown) (later : List ℕ) → ThroughCall image rows id ids answer later
+      → (answer ≡ throughRefusal (refusal 2 b)) × (later ≡ ids)
   pub reason-call : (low high : ℕ) → reasonAnswer image low high ≡ reasonRefusal (refusal 2 b)
   pub base : (patch rows room newRows : List ℕ) → PatchCallRefused 2 b image patch rows room newRows
 

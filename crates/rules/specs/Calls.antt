@@ -1,9 +1,10 @@
 -- What each call returns, and what each lent buffer holds afterwards, for every input.
-use Prim.Native.Nat.{ℕ, _+_, _*_, _/_, _%_, _≤_}
-use mathlib.Core.List.{List, [], _++_}
+use Prim.Native.Nat.{ℕ, _+_, _*_, _/_, _%_, _≤_, _<_}
+use mathlib.Core.List.{List, [], _++_, map}
 use mathlib.Core.Bool.{Bool, true, false, cond, _&&_, _||_, not}
 use mathlib.Core.Path.{_≡_}
 use lib.ListN.{length, take, drop}
+use lib.IntN.{ℤ, subℕ}
 use lib.Dec.{leb, ltb, eqb}
 use Rattle.rules.specs.declared.Form.{Form}
 use Rattle.rules.specs.declared.Form.the-variants.{Table, Patch}
@@ -13,12 +14,13 @@ use Rattle.rules.specs.declared.Patched.{Patched}
 use Rattle.rules.specs.declared.Offending.{Offending}
 use Rattle.rules.specs.declared.Reasoned.{Reasoned}
 use Rattle.rules.specs.declared.Reversed.{Reversed}
+use Rattle.rules.specs.declared.Shown.{Shown}
 use Rattle.rules.specs.Numbers.{upTo}
 use Rattle.rules.specs.Blocks.{mostBlocks, records, recordStart, recordAt, blocksFor, imageOf}
 use Rattle.rules.specs.Records.{tasks, taskCount, placeOf, listed}
 use Rattle.rules.specs.Reasons.{told}
 use Rattle.rules.specs.Preempt.{reasonAt, mapOf}
-use Rattle.rules.specs.Chains.{Figures, FiguresOf, chainBound, chainIds}
+use Rattle.rules.specs.Chains.{weight, Through, Largest, Heaviest, related, sizeAt, idAt, Figures, FiguresOf, chainBound, chainIds}
 use Rattle.rules.specs.Patches.{outcome, reversed, touchedCount, patchedMap}
 use Rattle.rules.specs.Refusals.{accepted, orElse, tableVerdict, patchVerdict, absentRefusal, outcomeRefusal, shortRefusal, unlistedRefusal}
 
@@ -102,6 +104,58 @@ pub record BoundCall (image rows ids : List ℕ) (answer : Bounds) (later : List
       accepted (boundVerdict image rows ids) ≡ false → (answer ≡ boundRefusal (boundVerdict image rows ids)) × (later ≡ ids)
   pub worked :
       accepted (boundVerdict image rows ids) ≡ true → BoundsWorkedOut (records image) rows ids answer later
+
+-- room calls answer 1-8, 14, 11
+unfoldable pub roomLeftVerdict : List ℕ → List ℕ → List ℤ → Verdict
+roomLeftVerdict image rows room =
+    orElse (tableVerdict image) (shortRefusal (ltb (length rows) 64 || ltb (length room) 64))
+
+-- the room afterwards: for each task, by place, the reserve less what the heaviest chain that contains it weighs
+pub record RoomLeftWorkedOut (rs : List (List ℕ)) (rows : List ℕ) (reserve : ℕ) (room later : List ℤ) : Type 0 where
+  pub heaviest : ℕ → ℕ
+  pub right :
+      (i : ℕ) → i < taskCount rs → Largest (Through (taskCount rs) (related rs rows) i) (weight (sizeAt rs)) (heaviest i)
+  pub written : later ≡ over (upTo (λ i. subℕ reserve (heaviest i)) (taskCount rs)) room
+
+-- a room call: its answer, and the room afterwards
+pub record RoomLeftCall (image rows : List ℕ) (reserve : ℕ) (room : List ℤ) (answer : Verdict) (later : List ℤ) : Type 0 where
+  pub answered : answer ≡ roomLeftVerdict image rows room
+  pub refused : accepted (roomLeftVerdict image rows room) ≡ false → later ≡ room
+  pub worked : accepted (roomLeftVerdict image rows room) ≡ true → RoomLeftWorkedOut (records image) rows reserve room later
+
+-- chain calls for one task answer 1-8, 14, then 15 where its id is not listed, then 11
+unfoldable pub throughVerdict : List ℕ → List ℕ → ℕ → List ℕ → Verdict
+throughVerdict image rows id ids =
+    orElse (tableVerdict image)
+    (orElse (unlistedRefusal (not (listed (tasks (records image)) id)))
+    (shortRefusal (ltb (length rows) 64 || ltb (length ids) 64)))
+
+abbrev pub throughRefusal : Verdict → Shown
+throughRefusal v = record { number = v .number; place = v .place; weight = 0; length = 0 }
+
+abbrev pub throughFound : List (List ℕ) → List ℕ → Shown
+throughFound rs chain =
+    record {
+      number = 0;
+      place = 0;
+      weight = weight (sizeAt rs) chain;
+      length = length chain;
+    }
+
+-- the answer and the later ids, where the heaviest chain that contains the named task is worked out
+pub record ThroughWorkedOut (rs : List (List ℕ)) (rows : List ℕ) (id : ℕ) (ids : List ℕ) (answer : Shown) (later : List ℕ) : Type 0 where
+  pub chain : List ℕ
+  pub right :
+      Heaviest (Through (taskCount rs) (related rs rows) (placeOf (tasks rs) id)) (sizeAt rs) (idAt rs) chain
+  pub found : (answer ≡ throughFound rs chain) × (later ≡ over (map (idAt rs) chain) ids)
+
+-- a chain call for one task: its answer, and the ids afterwards
+pub record ThroughCall (image rows : List ℕ) (id : ℕ) (ids : List ℕ) (answer : Shown) (later : List ℕ) : Type 0 where
+  pub refused :
+      accepted (throughVerdict image rows id ids) ≡ false
+      → (answer ≡ throughRefusal (throughVerdict image rows id ids)) × (later ≡ ids)
+  pub worked :
+      accepted (throughVerdict image rows id ids) ≡ true → ThroughWorkedOut (records image) rows id ids answer later
 
 -- reason calls answer 1-8, 14, then 15 where one of the two ids is not listed
 unfoldable pub reasonVerdict : List ℕ → ℕ → ℕ → Verdict

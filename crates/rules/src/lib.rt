@@ -96,3 +96,12 @@ pub struct Reversed {
     pub place: u32,
     pub length: u32,
 }
+
+// What a chain call for one task returns. A refused call has number and place, and all else 0.
+#[repr(C)]
+pub struct Shown {
+    pub number: u32,
+    pub place: u32,
+    pub weight: u32,
+    pub length: u32,
+}

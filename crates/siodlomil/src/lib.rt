@@ -1,6 +1,6 @@
 // The C interface: the calls of the library under names that C can link. Each lent slice is a pointer and its length.
 ghost use mathlib.Core.Path.{_≡_};
-ghost use Rattle.rules.specs.Calls.{mapVerdict, mapAfter, BoundCall, reasonAnswer, PatchCall, OffendsAt, reverseAnswer, reverseAfter};
+ghost use Rattle.rules.specs.Calls.{mapVerdict, mapAfter, BoundCall, RoomLeftCall, ThroughCall, reasonAnswer, PatchCall, OffendsAt, reverseAnswer, reverseAfter};
 use image::records::record_start;
 use patch::absent::verdict_of_both;
 use patch::call::apply_patch;
@@ -12,8 +12,11 @@ use rules::Offending;
 use rules::Patched;
 use rules::Reasoned;
 use rules::Reversed;
+use rules::Shown;
 use rules::Verdict;
 use stack::call::find_bounds;
+use through::call::chain_through;
+use through::call::room_left;
 
 // Fills a lent map from a table image. A refusal answers its number and place, and writes nothing.
 #[no_mangle]
@@ -31,6 +34,34 @@ pub extern "C" fn siodlomil_bounds(image: &[u8], map: &[u64], ids: &mut [u16]) -
     ensures { λ r. ⌜ BoundCall (now (image .entry)) (now (map .entry)) (now (ids .entry)) r (now (ids .exit)) ⌝ }
 {
     find_bounds(image, map, ids)
+}
+
+// For each task of a table image, by place, the reserve less the weight of the heaviest chain that contains it, in the lent
+// room. A refusal answers its number and place, and writes nothing.
+#[no_mangle]
+pub extern "C" fn siodlomil_room_left(
+    image: &[u8],
+    map: &[u64],
+    reserve: u32,
+    room: &mut [i64],
+) -> Verdict
+    ensures { λ r. ⌜ RoomLeftCall (now (image .entry)) (now (map .entry)) reserve (now (room .entry)) r (now (room .exit)) ⌝ }
+{
+    room_left(image, map, reserve, room)
+}
+
+// The heaviest chain of a table image that contains the task with this id, by its ids in the lent room. A refusal answers its
+// number and place, and writes nothing.
+#[no_mangle]
+pub extern "C" fn siodlomil_chain_through(
+    image: &[u8],
+    map: &[u64],
+    id: u32,
+    ids: &mut [u16],
+) -> Shown
+    ensures { λ r. ⌜ ThroughCall (now (image .entry)) (now (map .entry)) id (now (ids .entry)) r (now (ids .exit)) ⌝ }
+{
+    chain_through(image, map, id, ids)
 }
 
 // Why the task with one id may be preempted by the task with another, or why not, as a number from 1 to 6. A refusal answers

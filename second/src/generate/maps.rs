@@ -1,4 +1,4 @@
-//! The maps that bound and patch calls read.
+//! The maps that bound, patch and room calls, and chain calls for one task, read.
 
 use crate::generate::random::Random;
 use crate::generate::task_values::MANY_TASKS;
@@ -55,6 +55,18 @@ fn map_without_thresholds(table: &Table) -> Vec<u64> {
     let tasks = freed.tasks.iter_mut();
     tasks.for_each(|task| task.threshold = THRESHOLD_OF_PRIORITY);
     true_map(&freed).to_vec()
+}
+
+/// A map of 64 rows that is random in every other case, in half of the others the true one, and else as `map_for` draws it.
+pub fn map_often_random(random: &mut Random, table: &Table) -> Vec<u64> {
+    match random.rank(4) {
+        0 | 1 => {
+            let percent = random.pick(&[10, 30, 50, 80, 95]);
+            map_of_percent(random, percent)
+        }
+        2 => true_map(table).to_vec(),
+        _ => map_for(random, table, MAP_ROWS),
+    }
 }
 
 /// A map of 64 rows with about so many of a hundred cells set.

@@ -5,6 +5,7 @@ mod damaged_images;
 mod edits;
 mod field_faults;
 mod frame_damage;
+mod ids;
 pub mod large_cases;
 mod map_cases;
 mod maps;
@@ -16,6 +17,7 @@ pub mod random;
 mod reason_cases;
 mod record_damage;
 mod reverse_cases;
+mod room_cases;
 mod rooms;
 mod run_cases;
 pub mod tables;
@@ -95,6 +97,7 @@ impl Generator {
             Call::Reasons => reason_cases::draw(&mut self.random),
             Call::Reverse => reverse_cases::draw(&mut self.random),
             Call::RoundTrip => trip_cases::draw(&mut self.random),
+            Call::RoomLeft => room_cases::draw(&mut self.random),
         }
     }
 }

@@ -2,18 +2,14 @@
 
 use crate::blocks::{image_of, Form};
 use crate::generate::damaged_images::damaged_table;
-use crate::generate::misfits::unused_number;
+use crate::generate::ids::{some_id, unlisted_id};
 use crate::generate::precedences::table_of_paths;
 use crate::generate::random::Random;
 use crate::generate::tables::{any_table, table_of_shape, Shape};
-use crate::records::TASK;
 use crate::stream::question::Question;
 use crate::stream::{Call, Case};
 use crate::table::Table;
 use crate::verdict::MOST_PAIRS;
-
-/// The first number past the ids; a cut to 16 bits takes its multiples away.
-const PAST_IDS: u32 = 1 << 16;
 
 /// The reasons of a table, mostly an accepted one, with three to six questions.
 pub fn draw(random: &mut Random) -> Case {
@@ -84,23 +80,5 @@ fn question_of_tasks(random: &mut Random, table: &Table) -> Question {
     Question {
         low: some_id(random, table),
         high: some_id(random, table),
-    }
-}
-
-/// The id of one of the tasks; where there are none, one that is not listed.
-fn some_id(random: &mut Random, table: &Table) -> u32 {
-    match table.tasks.is_empty() {
-        true => 1,
-        false => u32::from(random.pick(&table.tasks).id),
-    }
-}
-
-/// A number that is no task's id: 0, one of 16 bits, or one that is some task's id in its low 16 bits.
-fn unlisted_id(random: &mut Random, table: &Table) -> u32 {
-    match random.rank(4) {
-        0 => 0,
-        1 => u32::from(unused_number(random, &table.records(), TASK)),
-        2 => some_id(random, table) + PAST_IDS,
-        _ => some_id(random, table) + PAST_IDS * random.time(1, PAST_IDS - 1),
     }
 }

@@ -32,9 +32,10 @@ pub const PATCH_CALLS: Stream = stream(4, "A", 3000);
 pub const RUNS: Stream = stream(6, "R", 400);
 pub const REVERSES: Stream = stream(9, "V", 1500);
 pub const ROUND_TRIPS: Stream = stream(10, "U", 1000);
+pub const ROOMS_LEFT: Stream = stream(11, "G", 2000);
 
 /// The streams of every letter whose calls read a table for its map, its bounds or its reasons.
-pub const COMPARED: [Stream; 7] = [
+pub const COMPARED: [Stream; 8] = [
     stream(2, "M", 2000),
     BOUND_CALLS,
     PATCH_CALLS,
@@ -42,6 +43,7 @@ pub const COMPARED: [Stream; 7] = [
     RUNS,
     stream(8, "W", 1200),
     ROUND_TRIPS,
+    ROOMS_LEFT,
 ];
 
 /// The streams of the other letters, whose calls read an image by itself.

@@ -5,7 +5,7 @@ use mathlib.Core.Bool.{true, false, cond, _&&_}
 use mathlib.Core.Path.{_≡_, refl, ap, sym, subst, _∙_}
 use native.Mathlib.Omega.{arith}
 use borrow.Author.Tests.{leb-true}
-use lib.ListN.{length, drop, length-append, length-drop}
+use lib.ListN.{length, drop, length-append}
 use lib.Seq.{take-at, drop-append-seam}
 use lib.Dec.{leb}
 use Rattle.rules.specs.declared.Form.the-variants.{Table}
@@ -21,6 +21,7 @@ use Rattle.rules.specs.Runs.{Step, State, called, calls, leftAfter, afre
 use Rattle.rules.proofs.Numbers.{either}
 use Rattle.rules.proofs.Tests.{both-first, both-second}
 use Rattle.rules.proofs.Maps.{map-length}
+use Rattle.rules.proofs.Over.{over-length}
 use Rattle.rules.proofs.Image.Parts.{Records}
 use Rattle.rules.proofs.Image.Frame.{frame-accepted}
 use Rattle.rules.proofs.Image.Written.{length-imageOf, records-imageOf}
@@ -31,17 +32,9 @@ use Rattle.rules.proofs.Patch.Outcome.{outcome-sized}
 use Rattle.rules.proofs.Patch.Exactly.{accepted-acceptable}
 use Rattle.rules.proofs.Patch.TrueMap.{patched-true}
 
--- the true map of a table written over rows that are long enough
-module _ (rs : List (List ℕ)) (rows : List ℕ) where
-  -- leaves as many rows
-  over-length : 64 ≤ length rows → length (over (mapOf rs) rows) ≡ length rows
-  over-length long =
-      length-append (mapOf rs) (drop (length (mapOf rs)) rows)
-      ∙ omega (arith, map-length (taskCount rs) (decided rs), length-drop (length (mapOf rs)) rows)
-
-  -- and written once more it changes nothing
-  pub over-again : over (mapOf rs) rows ≡ over (mapOf rs) (over (mapOf rs) rows)
-  over-again = rw (drop-append-seam (mapOf rs) (drop (length (mapOf rs)) rows))
+-- the true map of a table that is written over rows once more changes nothing
+pub over-again : (rs : List (List ℕ)) (rows : List ℕ) → over (mapOf rs) rows ≡ over (mapOf rs) (over (mapOf rs) rows)
+over-again rs rows = rw (drop-append-seam (mapOf rs) (drop (length (mapOf rs)) rows))
 
 -- what an accepted patch leaves of a base with these records and this map
 abbrev pub patchedState : List (List ℕ) → List (List ℕ) → List ℕ → List ℕ → State
@@ -70,8 +63,9 @@ module _ (rs : List (List ℕ)) (rows : List ℕ) (p : Step) (table : Valid rs) 
   -- the call is accepted exactly where the patch is acceptable
   call-acceptable : accepted (patchCallVerdict (imageOf Table rs) (p .patch) (over (mapOf rs) rows) (p .room) (p .rows)) ≡ acceptable rs rows p
   call-acceptable =
+      let fits : length (mapOf rs) ≤ length rows = omega (arith, long, map-length (taskCount rs) (decided rs)) in
       accepted-acceptable (imageOf Table rs) (over (mapOf rs) rows) p image-accepted
-      ∙ rw (records-imageOf Table rs (table .sized), over-length rs rows long)
+      ∙ rw (records-imageOf Table rs (table .sized), over-length (mapOf rs) rows fits)
 
   -- a patch that is acceptable
   module _ (h : acceptable rs rows p ≡ true) where

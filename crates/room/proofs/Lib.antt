@@ -1,0 +1,2 @@
+mod Distance
+mod Digits
