@@ -1,7 +1,7 @@
 -- Each figure, and each answer of a bound call with the ids afterwards, is determined by the table and the map.
 use Prim.Native.Nat.{ℕ, ◌<◌}
 use mathlib.Core.List.{List, List-discrete}
-use mathlib.Core.Path.{◌≡◌, ap, sym, ◌∙◌}
+use mathlib.Core.Path.{◌≡◌, refl, ap, sym, ◌∙◌}
 use native.Mathlib.Decide.{ℕ_discrete}
 use native.Mathlib.Omega.{arith}
 use lib.ListN.{length}
@@ -9,7 +9,7 @@ use Rattle.rules.specs.declared.Bounds.{Bounds}
 use Rattle.rules.specs.Blocks.{records}
 use Rattle.rules.specs.Records.{task_count, transactions}
 use Rattle.rules.specs.Chains.{weight, Chain, Path, All, Before, Largest, Heaviest, related, size_at, id_at, in_transaction, TransactionBound, Figures, FiguresOf, chain_ids}
-use Rattle.rules.specs.Chains.Before.{less, later}
+use Rattle.rules.specs.Chains.Before.{less, later, shorter}
 use Rattle.rules.specs.Refusals.{accepted}
 use Rattle.rules.specs.Calls.{over, bound_verdict, bounds_found, BoundCall, BoundsWorkedOut}
 use Rattle.rules.proofs.Numbers.{either, sum_to_ext}
@@ -22,11 +22,31 @@ largest_unique P f r s a b =
     omega (arith, a.most d pd, b.most c pc, ec, ed)
 
 -- of two lists only one comes before the other
+once_apart : {s t u v : List ℕ} → Before s t → Before u v → s ≡ v → t ≡ u → ⊥
+once_apart (less {a = a} {b = b} l) (less {a = c} {b = d} m) p q =
+    let first : a ≡ d = cc in
+    let second : b ≡ c = cc in
+    omega arith
+once_apart (less {a = a} {b = b} l) (later {a = c} m) p q =
+    let first : a ≡ c = cc in
+    let second : b ≡ c = cc in
+    omega arith
+once_apart (less l) shorter p q = cc
+once_apart (later {a = a} l) (less {a = c} {b = d} m) p q =
+    let first : a ≡ d = cc in
+    let second : a ≡ c = cc in
+    omega arith
+once_apart (later {s = s} {t = t} l) (later {s = u} {t = v} m) p q =
+    let rest : s ≡ v = cc in
+    let others : t ≡ u = cc in
+    once_apart l m rest others
+once_apart (later l) shorter p q = cc
+once_apart shorter (less m) p q = cc
+once_apart shorter (later m) p q = cc
+once_apart shorter shorter p q = cc
+
 pub before_once : {s t : List ℕ} → Before s t → Before t s → ⊥
-before_once (less l) (less m) = omega arith
-before_once (less l) (later m) = omega arith
-before_once (later l) (less m) = omega arith
-before_once (later l) (later m) = before_once l m
+before_once l m = once_apart l m refl refl
 
 -- there is one heaviest list that is first among equals
 pub heaviest_unique : (P : List ℕ → Type 0) (S id : ℕ → ℕ) (c d : List ℕ) → Heaviest P S id c → Heaviest P S id d → c ≡ d
