@@ -1,4 +1,7 @@
 // A test program: reads a stream of cases (docs/STREAM.md) from standard input and prints the answer to each.
+
+#![tactic(auto)]
+
 mod bounds;
 mod digest;
 mod growth;

@@ -1,5 +1,8 @@
 // The program `bounds`: reads one table image from standard input and prints the number of tasks, the chain bound with
 // its chain, and the path, transactions and levels bounds, or the refusal alone.
+
+#![tactic(auto)]
+
 mod print;
 
 fn main() {

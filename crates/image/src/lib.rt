@@ -1,4 +1,7 @@
 // Blocks: length, check, header and fill of an image, and where its records stand.
+
+#![tactic(auto)]
+
 mod block;
 pub mod bytes;
 pub mod frame;

@@ -1,5 +1,8 @@
 // The program `reasons`: reads one table image from standard input and prints why the tasks of its chain nest, a line for
 // each pair of neighbours, or the refusal alone.
+
+#![tactic(auto)]
+
 mod print;
 
 fn main() {

@@ -1,5 +1,8 @@
 // The program `room`: reads one table image from standard input and the reserve as its one argument, and prints for each task
 // what the heaviest chain that contains it leaves of the reserve, or the refusal alone.
+
+#![tactic(auto)]
+
 mod argument;
 mod figures;
 mod print;

@@ -1,5 +1,7 @@
 // The sizes, limits and plain types that every layer shares. What they mean is defined in specs/.
 
+#![tactic(auto)]
+
 // An image is a row of blocks; a block holds fifteen records between its header and its fill.
 pub const BLOCK_BYTES: usize = 512;
 

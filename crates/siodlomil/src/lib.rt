@@ -1,4 +1,7 @@
 // The C interface: the calls of the library under names that C can link. Each lent slice is a pointer and its length.
+
+#![tactic(auto)]
+
 ghost use Rattle.std.specs.Prelude.{◌≡◌};
 ghost use Rattle.rules.specs.Calls.{map_verdict, map_after, BoundCall, WithinCall, RoomLeftCall, ThroughCall, reason_answer, PatchCall, OffendsAt, reverse_answer, reverse_after};
 

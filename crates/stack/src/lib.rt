@@ -1,4 +1,7 @@
 // The chain and the four bounds of a table over a lent map; below the call, path sums and the search over plain slices.
+
+#![tactic(auto)]
+
 pub mod call;
 mod levels;
 pub mod naming;

@@ -1,4 +1,7 @@
 // Records: their form, order, ranges and counts, what they refer to, and the verdict on a whole image.
+
+#![tactic(auto)]
+
 pub mod count;
 mod form;
 pub mod order;

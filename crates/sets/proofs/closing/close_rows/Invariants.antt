@@ -1,0 +1,15 @@
+-- The loop keeps the rows of the paths that lead through places below k.
+use Prim.Native.Nat.{ℕ, ◌-◌, ◌≤◌}
+use mathlib.Core.Path.{◌≡◌, ap, ◌∙◌}
+use native.Mathlib.Omega.{arith}
+use borrow.Author.Rules.{rules}
+use Rattle.rules.specs.Preempt.{cell, map_from}
+use Rattle.rules.specs.Reach.{reaches}
+use Rattle.sets.proofs.Paths.{closed_more, closed_none, is_map}
+use Rattle.sets.proofs.closing.close_rows.Given as goal
+
+abbrev pub invariant-loop-k : goal.invariant-loop-k
+invariant-loop-k l = (l.k ≤ l.count) × (l.rows ≡ map_from l.count (reaches (cell l.initial.rows) (λ m. m) l.k))
+
+abbrev pub decreases-loop-k : goal.decreases-loop-k
+decreases-loop-k l = l.count - l.k

@@ -1,0 +1,13 @@
+-- The loop's invariant: of the places passed the set holds those whose number is this one.
+use Prim.Native.Nat.{◌-◌}
+use Rattle.sets.specs.Bits.{has_number}
+use Rattle.sets.proofs.Choosing.{Chosen, chosen_none, chosen_more, chosen_all}
+use native.Mathlib.Omega.{arith}
+use borrow.Author.Rules.{rules}
+use Rattle.sets.proofs.places.members.Given as goal
+
+abbrev pub invariant-loop-place : goal.invariant-loop-place
+invariant-loop-place l = Chosen (has_number l.numbers l.number) l.count l.place l.set
+
+abbrev pub decreases-loop-place : goal.decreases-loop-place
+decreases-loop-place l = l.count - l.place

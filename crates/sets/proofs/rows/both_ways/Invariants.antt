@@ -1,0 +1,12 @@
+-- The loop turns the cells row by row.
+use Prim.Native.Nat.{◌-◌}
+use native.Mathlib.Omega.{arith}
+use borrow.Author.Rules.{rules}
+use Rattle.sets.proofs.Turning.{Turning, turning_none, turning_more, turning_all}
+use Rattle.sets.proofs.rows.both_ways.Given as goal
+
+abbrev pub invariant-loop-i : goal.invariant-loop-i
+invariant-loop-i l = Turning l.count l.initial.rows l.i l.rows
+
+abbrev pub decreases-loop-i : goal.decreases-loop-i
+decreases-loop-i l = l.count - l.i
