@@ -6,7 +6,7 @@ ghost use Rattle.image.specs.InTurn.{past, met_among};
 use crate::bytes::is_same;
 use crate::records::{record_count, record_part};
 
-#[derive(Drop)]
+#[derive(Clone, Copy)]
 pub struct Reader<'a> {
     pub image: &'a [u8],
     pub next: usize,

@@ -20,7 +20,7 @@ pub const MOST_TASKS: u32 = 64;
 pub const MOST_PAIRS: u32 = 256;
 
 // The two forms of an image.
-#[derive(Drop)]
+#[derive(Clone, Copy)]
 pub enum Form {
     Table,
     Patch,
@@ -28,14 +28,14 @@ pub enum Form {
 
 // The answer of the checks: refusal number and place, or 0 and 0 for an accepted image or call.
 #[repr(C)]
-#[derive(Drop)]
+#[derive(Clone, Copy)]
 pub struct Verdict {
     pub number: u32,
     pub place: u32,
 }
 
 // What a task record says: a missing jitter is read as the period of its transaction, a threshold of 0 as the priority.
-#[derive(Drop)]
+#[derive(Clone, Copy)]
 pub struct Task {
     pub id: u32,
     pub transaction: u32,
@@ -48,7 +48,7 @@ pub struct Task {
 }
 
 // Why a task may be preempted by another, the first three, or why it may not, the others.
-#[derive(Drop)]
+#[derive(Clone, Copy)]
 pub enum Reason {
     Transaction,
     Jitter,
@@ -60,7 +60,7 @@ pub enum Reason {
 
 // What a bound call returns. A refused call has number and place, and all else 0.
 #[repr(C)]
-#[derive(Drop)]
+#[derive(Clone, Copy)]
 pub struct Bounds {
     pub number: u32,
     pub place: u32,
@@ -75,7 +75,7 @@ pub struct Bounds {
 // What a bound call with a limit returns: a bound call's fields, then the number of chains opened. Refusal 13 has the path and
 // transactions bounds and all else 0; any other refused call has number and place, and all else 0.
 #[repr(C)]
-#[derive(Drop)]
+#[derive(Clone, Copy)]
 pub struct BoundsWithin {
     pub number: u32,
     pub place: u32,
@@ -90,7 +90,7 @@ pub struct BoundsWithin {
 
 // What a patch call returns. A refused call has number and place, and all else 0.
 #[repr(C)]
-#[derive(Drop)]
+#[derive(Clone, Copy)]
 pub struct Patched {
     pub number: u32,
     pub place: u32,
@@ -100,7 +100,7 @@ pub struct Patched {
 
 // Where the offending part stands in a patch image, in bytes: 0 and 0 where nothing offends.
 #[repr(C)]
-#[derive(Drop)]
+#[derive(Clone, Copy)]
 pub struct Offending {
     pub at: u64,
     pub length: u64,
@@ -108,7 +108,7 @@ pub struct Offending {
 
 // What a reason call returns. A refused call has number and place, and reason 0.
 #[repr(C)]
-#[derive(Drop)]
+#[derive(Clone, Copy)]
 pub struct Reasoned {
     pub number: u32,
     pub place: u32,
@@ -117,7 +117,7 @@ pub struct Reasoned {
 
 // What a reverse call returns. A refused call has number and place, and length 0.
 #[repr(C)]
-#[derive(Drop)]
+#[derive(Clone, Copy)]
 pub struct Reversed {
     pub number: u32,
     pub place: u32,
@@ -126,7 +126,7 @@ pub struct Reversed {
 
 // What a chain call for one task returns. A refused call has number and place, and all else 0.
 #[repr(C)]
-#[derive(Drop)]
+#[derive(Clone, Copy)]
 pub struct Shown {
     pub number: u32,
     pub place: u32,

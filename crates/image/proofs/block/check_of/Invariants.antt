@@ -1,0 +1,21 @@
+-- The loop keeps that the sums so far and the weighted bytes are together the last sum, once more than bytes are passed.
+use Prim.Native.Nat.{ℕ, ◌+◌, ◌*◌, ◌-◌, ◌%◌, ◌≤◌}
+use mathlib.Core.Path.{◌≡◌, ap, sym, ◌∙◌}
+use mathlib.Core.List.{List}
+use native.Mathlib.Nat.{mul-add, add-mul, one-mul}
+use native.Mathlib.Omega.{arith}
+use borrow.Author.Rules.{rules}
+use lib.ListN.{get_or}
+use Rattle.rules.specs.Numbers.{sum_to}
+use Rattle.rules.specs.Blocks.{check_of}
+use Rattle.rules.proofs.Numbers.{sum_to_step, sum_to_zero}
+use Rattle.image.proofs.block.check_of.Given as goal
+
+abbrev pub term : List ℕ → ℕ → ℕ
+term block i = (i + 1) * get_or block i 0
+
+abbrev pub invariant-loop-i : goal.invariant-loop-i
+invariant-loop-i l = (l.i ≤ 510) × (l.sums + sum_to (term l.block) l.i ≡ (l.i + 1) * l.sum) × (l.sum ≤ 255 * l.i) × (l.sums ≤ 130050 * l.i)
+
+abbrev pub decreases-loop-i : goal.decreases-loop-i
+decreases-loop-i l = 510 - l.i

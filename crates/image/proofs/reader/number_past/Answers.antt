@@ -1,0 +1,46 @@
+-- Past the last record the answer is k; before it, the image's record k is compared.
+-- a number that is not past the last record stands before it
+use Prim.Native.Nat.{ℕ, ◌<◌}
+use mathlib.Core.Bool.{Bool, false}
+use mathlib.Core.List.{List}
+use mathlib.Core.Path.{◌≡◌, sym, ap, ◌∙◌}
+use native.Mathlib.Omega.{arith}
+use lib.Dec.{leb}
+use borrow.Author.Rules.{rules}
+use borrow.Author.Tests.{leb-true, leb-false}
+use Rattle.rules.specs.Blocks.{record_at, record_count}
+use Rattle.rules.specs.Patches.{same}
+use Rattle.image.proofs.InTurn.{count_fits, past_last, past_inside}
+use Rattle.image.proofs.reader.number_past.Goals as goal
+
+inside : {past : Bool} (n k : ℕ) → past ≡ leb n k → past ≡ false → k < n
+inside n k says not-past = leb-false n k (sym says ∙ not-past)
+
+-- what was compared is the image's record k
+compared : {r : List ℕ} {found : Bool} (image fields : List ℕ) (k : ℕ) → r ≡ record_at image k → found ≡ same r fields → found ≡ same (record_at image k) fields
+compared image fields k record-k answer = answer ∙ ap (λ (r : List ℕ). same r fields) record-k
+
+pub returns-then-is_past : goal.returns-then-is_past
+returns-then-is_past c =
+    let args = c.args in
+    sym (past_last args.image.now args.fields.now args.k (leb-true _ _ (sym c.is_past.ensures ∙ c.if-is_past.true)))
+
+pub overflow_add-result : goal.overflow_add-result
+overflow_add-result c =
+    let args = c.args in
+    let here : args.k < record_count args.image.now = inside _ _ c.is_past.ensures c.if-is_past.false in
+    record { fits = omega (arith, count_fits args.image.now (omega arith) (λ i. (c.type_inv.image i).fits)) }
+
+pub returns-then-is_same : goal.returns-then-is_same
+returns-then-is_same c =
+    let args = c.args in
+    let here = inside _ _ c.is_past.ensures c.if-is_past.false in
+    let found = compared args.image.now args.fields.now args.k c.record_part.ensures c.is_same.ensures in
+    rw (past_inside args.image.now args.fields.now args.k here, ← found, c.if-is_same.true)
+
+pub returns-else-is_same : goal.returns-else-is_same
+returns-else-is_same c =
+    let args = c.args in
+    let here = inside _ _ c.is_past.ensures c.if-is_past.false in
+    let found = compared args.image.now args.fields.now args.k c.record_part.ensures c.is_same.ensures in
+    rw (past_inside args.image.now args.fields.now args.k here, ← found, c.if-is_same.false)
