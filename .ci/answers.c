@@ -115,27 +115,35 @@ static void print_bounds(siodlomil_bounds_answer of)
            of.place, of.tasks, of.chain, of.path, of.transactions, of.levels, of.length);
 }
 
-static void print_within(siodlomil_bounds_within_answer of)
-{
-    printf(" %" PRIu32 " %" PRIu32 " %" PRIu32 " %" PRIu32 " %" PRIu32 " %" PRIu32 " %" PRIu32 " %" PRIu32 " %" PRIu32,
-           of.number, of.place, of.tasks, of.chain, of.path, of.transactions, of.levels, of.length, of.opened);
-}
-
-/* The bound call, and `L`, the one with a limit, which stands where others have the bytes of the room. */
-static void answer_bounds(int call, lengths lent)
+static void answer_bounds(lengths lent)
 {
     static table of;
     uint16_t ids[MOST_IDS];
     read_bytes(of.image, lent.image, sizeof of.image);
     read_rows(of.map, lent.base_rows);
     read_bytes(ids, 2 * lent.ids, sizeof ids);
-    putchar(call);
-    if (call == 'L') {
-        print_within(siodlomil_bounds_within(of.image, lent.image, of.map, lent.base_rows, ids, lent.ids,
-                                             (uint32_t)lent.room));
-    } else {
-        print_bounds(siodlomil_bounds(of.image, lent.image, of.map, lent.base_rows, ids, lent.ids));
-    }
+    putchar('B');
+    print_bounds(siodlomil_bounds(of.image, lent.image, of.map, lent.base_rows, ids, lent.ids));
+    print_digest(ids, 2 * lent.ids);
+    putchar('\n');
+}
+
+static void print_within(siodlomil_bounds_within_answer of)
+{
+    printf(" %" PRIu32 " %" PRIu32 " %" PRIu32 " %" PRIu32 " %" PRIu32 " %" PRIu32 " %" PRIu32 " %" PRIu32 " %" PRIu32,
+           of.number, of.place, of.tasks, of.chain, of.path, of.transactions, of.levels, of.length, of.opened);
+}
+
+/* The bound call with a limit; the limit stands where others have the bytes of the room. */
+static void answer_within(lengths lent)
+{
+    static table of;
+    uint16_t ids[MOST_IDS];
+    read_bytes(of.image, lent.image, sizeof of.image);
+    read_rows(of.map, lent.base_rows);
+    read_bytes(ids, 2 * lent.ids, sizeof ids);
+    putchar('H');
+    print_within(siodlomil_bounds_within(of.image, lent.image, of.map, lent.base_rows, ids, lent.ids, (uint32_t)lent.room));
     print_digest(ids, 2 * lent.ids);
     putchar('\n');
 }
@@ -352,12 +360,12 @@ static void answer(int call, lengths lent)
     case 'T': answer_table(lent); break;
     case 'P': answer_patch_verdict(lent); break;
     case 'M': answer_map(lent); break;
-    case 'B':
-    case 'L': answer_bounds(call, lent); break;
+    case 'B': answer_bounds(lent); break;
     case 'A': answer_patch(lent); break;
     case 'V': answer_reverse(lent); break;
     case 'U': answer_trip(lent); break;
     case 'G': answer_growth(lent); break;
+    case 'H': answer_within(lent); break;
     case 'W': answer_reasons(lent); break;
     case 'R': answer_run(lent); break;
     default: broken();

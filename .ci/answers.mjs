@@ -87,7 +87,7 @@ const calls = {
     const ids = take(Uint16Array, lent.ids);
     return [...numbersOf(siodlomil.bounds(image, map, ids)), digest(ids)];
   },
-  L(lent) {
+  H(lent) {
     const [image, map] = [take(Uint8Array, lent.image), take(BigUint64Array, lent.baseRows)];
     const ids = take(Uint16Array, lent.ids);
     const found = siodlomil.boundsWithin(image, map, ids, lent.room); // the limit stands where the room of others does

@@ -91,7 +91,7 @@ fn numbers_of_bounds(bounds: Bounds) -> [u64; 6] {
 
 /// What a bound call has, with the chains that the rule opens before the digest.
 fn within_numbers(case: &mut Case) -> Vec<u64> {
-    let limit = case.asked.limit;
+    let limit = case.limit;
     let given = within_call(&case.image, &case.map_read, limit, &mut case.ids);
     let within = given.unwrap_or_else(|refused| Within {
         bounds: refused.bounds,

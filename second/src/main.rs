@@ -24,7 +24,7 @@ const USAGE: &str =
                      | answer | sorts | figure2 | unmeasured | thresholds | precedence | heaviest \
                      | cancelled | patch NUMBER | case NUMBER | simulate SEED COUNT \
                      (RESERVE and LIMIT are numbers of decimal digits from 0 to 4294967295; \
-                     LETTERS are some of T, P, M, B, A, R, W, V, U, G, L and H; \
+                     LETTERS are some of T, P, M, B, A, R, W, V, U, G, H and L; \
                      NUMBER is 11, 12 or 13)";
 
 /// Digits that a reserve or a limit may have, leading zeros among them.

@@ -1,6 +1,7 @@
 //! The stream of cases: one header of 32 bytes for each case and then everything that is lent.
 
 pub mod asked;
+mod limit;
 pub mod parts;
 pub mod question;
 pub mod step;
@@ -51,7 +52,7 @@ impl Call {
             b'V' => Some(Call::Reverse),
             b'U' => Some(Call::RoundTrip),
             b'G' => Some(Call::RoomLeft),
-            b'L' => Some(Call::BoundWithin),
+            b'H' => Some(Call::BoundWithin),
             _ => None,
         }
     }
@@ -69,7 +70,7 @@ impl Call {
             Call::Reverse => b'V',
             Call::RoundTrip => b'U',
             Call::RoomLeft => b'G',
-            Call::BoundWithin => b'L',
+            Call::BoundWithin => b'H',
         }
     }
 
@@ -97,6 +98,16 @@ impl Call {
         self != Call::RoundTrip
     }
 
+    /// Whether a reserve and an id stand in the header, where other calls have their last two lengths.
+    fn asks_for_a_task(self) -> bool {
+        self == Call::RoomLeft
+    }
+
+    /// Whether a limit stands in the header, where other calls have the last but one of their lengths.
+    fn has_limit(self) -> bool {
+        self == Call::BoundWithin
+    }
+
     /// Whether the case has to start from a valid table and its true map.
     fn starts_from_truth(self) -> bool {
         matches!(self, Call::Run | Call::RoundTrip)
@@ -117,8 +128,10 @@ pub struct Case {
     pub ids: Vec<u16>,
     pub room: Vec<u8>,
     pub steps: Vec<Step>,
-    /// The numbers that stand in the header.
+    /// The reserve and the id of a case that asks for room left.
     pub asked: Asked,
+    /// How many chains a case of the bound call with a limit may open; of others it is 0.
+    pub limit: u32,
 }
 
 impl Case {
@@ -134,6 +147,7 @@ impl Case {
             room: Vec::new(),
             steps: Vec::new(),
             asked: Asked::default(),
+            limit: 0,
         }
     }
 
@@ -151,7 +165,12 @@ impl Case {
         let mut header = [0; HEADER_BYTES];
         header[0] = self.call.letter();
         put_lengths(&mut header, &self.call.lengths(), lengths);
-        self.asked.put(self.call, &mut header);
+        if self.call.asks_for_a_task() {
+            self.asked.put(&mut header);
+        }
+        if self.call.has_limit() {
+            limit::put(self.limit, &mut header);
+        }
         let (map_written, room) = match self.call.tells_what_is_written() {
             true => (&self.map_written[..], &self.room[..]),
             false => (&[][..], &[][..]),
@@ -176,7 +195,14 @@ impl Case {
         };
         let call = Call::from_letter(header[0]).ok_or_else(|| broken("a letter without a call"))?;
         let is_told = call.tells_what_is_written();
-        let asked = Asked::take(call, &mut header);
+        let asked = match call.asks_for_a_task() {
+            true => Asked::take(&mut header),
+            false => Asked::default(),
+        };
+        let limit = match call.has_limit() {
+            true => limit::take(&mut header),
+            false => 0,
+        };
         let [image, patch, map_read, map_written, ids, room, steps] =
             lengths_in(&header, &call.lengths())?;
         let case = Case {
@@ -197,6 +223,7 @@ impl Case {
                 .map(|_| Step::read(input))
                 .collect::<io::Result<_>>()?,
             asked,
+            limit,
         };
         match case.starts_rightly() {
             true => Ok(Some(case)),

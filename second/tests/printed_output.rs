@@ -144,13 +144,13 @@ fn sorts_are_counted_where_their_calls_are() {
         ("V", 19),
         ("U", 29),
         ("G", 47),
-        ("L", 55),
+        ("H", 55),
         ("VAU", 79),
     ];
     for (letters, count) in sorts {
         assert_eq!(sorts_of(letters).lines().count(), count);
     }
-    assert_eq!(sorts_of("BH"), "");
+    assert_eq!(sorts_of("BL"), "");
 }
 
 #[test]

@@ -7,7 +7,6 @@ use second::figure2::figure2;
 use second::heaviest::heaviest;
 use second::preempt::true_map;
 use second::records::Task;
-use second::stream::asked::Asked;
 use second::stream::{Call, Case};
 use second::table::Table;
 
@@ -16,10 +15,7 @@ fn case_of(table: &Table, map: &[u64], limit: u32) -> Case {
     Case {
         map_read: map.to_vec(),
         ids: vec![0; 64],
-        asked: Asked {
-            limit,
-            ..Asked::default()
-        },
+        limit,
         ..Case::lending(Call::BoundWithin, table_image(table))
     }
 }

@@ -17,11 +17,7 @@ fn case_of(table: &Table, reserve: u32, id: u32) -> Case {
         map_read: true_map(table).to_vec(),
         map_written: vec![0; 64],
         ids: vec![0; 64],
-        asked: Asked {
-            reserve,
-            id,
-            ..Asked::default()
-        },
+        asked: Asked { reserve, id },
         ..Case::lending(Call::RoomLeft, table_image(table))
     }
 }

@@ -14,7 +14,6 @@ use crate::generate::task_values::Style;
 use crate::opening::open_chains;
 use crate::preempt::{true_map, MAP_ROWS};
 use crate::records::{Task, Transaction, MISSING_JITTER, THRESHOLD_OF_PRIORITY};
-use crate::stream::asked::Asked;
 use crate::stream::{Call, Case};
 use crate::table::Table;
 use crate::verdict::records_of_table;
@@ -62,10 +61,7 @@ fn draw_cases(random: &mut Random) -> Vec<Case> {
     };
     let with_limit = |limit: &u32| {
         let mut case = lent.clone();
-        case.asked = Asked {
-            limit: *limit,
-            ..Asked::default()
-        };
+        case.limit = *limit;
         case
     };
     limits.iter().map(with_limit).collect()

@@ -43,10 +43,10 @@ pub enum Wanted {
 }
 
 impl Wanted {
-    /// What this letter asks for: `H` for large tables, else the call's own letter.
+    /// What this letter asks for: `L` for large tables, else the call's own letter.
     pub fn from_letter(letter: u8) -> Option<Wanted> {
         match letter {
-            b'H' => Some(Wanted::LargeBound),
+            b'L' => Some(Wanted::LargeBound),
             _ => Call::from_letter(letter).map(Wanted::Any),
         }
     }

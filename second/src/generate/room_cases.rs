@@ -55,7 +55,6 @@ fn draw_asked(random: &mut Random, table: &Table, map: &[u64]) -> Asked {
     Asked {
         reserve: draw_reserve(random, weight, through),
         id,
-        ..Asked::default()
     }
 }
 

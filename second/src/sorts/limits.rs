@@ -208,7 +208,7 @@ impl Tried {
         let given = within_call(
             &case.image,
             &case.map_read,
-            case.asked.limit,
+            case.limit,
             &mut case.ids.clone(),
         );
         let (number, bounds) = match given {
@@ -222,7 +222,7 @@ impl Tried {
         let mut tried = Tried {
             number,
             bounds,
-            limit: case.asked.limit,
+            limit: case.limit,
             map_rows: case.map_read.len(),
             id_entries: case.ids.len(),
             is_own: map == true_map(&table),

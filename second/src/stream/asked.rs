@@ -1,50 +1,34 @@
-//! The numbers that a case asks with; they stand in the header, where other calls have the bytes of a room for an image
-//! and the steps of a run.
+//! What a case that asks for room left is about; it stands in the header, where other calls have the bytes of a
+//! room for an image and the steps of a run.
 
 use crate::bytes::{put_u32, u32_at};
-use crate::stream::Call;
 
-/// Where the reserve or the limit stands in a header.
-const AMOUNT_AT: usize = 24;
+/// Where the reserve stands in a header.
+const RESERVE_AT: usize = 24;
 /// Where the id stands in a header.
 const ID_AT: usize = 28;
 
-/// What a case asks for; numbers that its call does not take are 0.
+/// The reserve that room is asked of, and the id of the task whose heaviest chain is asked for.
 #[derive(Clone, Copy, PartialEq, Eq, Debug, Default)]
 pub struct Asked {
-    /// The reserve that room is asked of.
     pub reserve: u32,
-    /// The id of the task whose heaviest chain is asked for.
     pub id: u32,
-    /// How many chains may be opened.
-    pub limit: u32,
 }
 
 impl Asked {
-    /// Writes the numbers that the call takes to a header.
-    pub fn put(self, call: Call, header: &mut [u8]) {
-        match call {
-            Call::RoomLeft => {
-                put_u32(header, AMOUNT_AT, self.reserve);
-                put_u32(header, ID_AT, self.id);
-            }
-            Call::BoundWithin => put_u32(header, AMOUNT_AT, self.limit),
-            _ => {}
-        }
+    /// Writes reserve and id to a header.
+    pub fn put(self, header: &mut [u8]) {
+        put_u32(header, RESERVE_AT, self.reserve);
+        put_u32(header, ID_AT, self.id);
     }
 
-    /// Takes the numbers that the call has out of a header, which then has no lengths there.
-    pub fn take(call: Call, header: &mut [u8]) -> Asked {
-        let mut asked = Asked::default();
-        match call {
-            Call::RoomLeft => {
-                asked.reserve = u32_at(header, AMOUNT_AT);
-                asked.id = u32_at(header, ID_AT);
-            }
-            Call::BoundWithin => asked.limit = u32_at(header, AMOUNT_AT),
-            _ => {}
-        }
-        Asked::default().put(call, header);
+    /// Takes reserve and id out of a header, which then has no lengths there.
+    pub fn take(header: &mut [u8]) -> Asked {
+        let asked = Asked {
+            reserve: u32_at(header, RESERVE_AT),
+            id: u32_at(header, ID_AT),
+        };
+        Asked::default().put(header);
         asked
     }
 }

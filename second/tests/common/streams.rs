@@ -33,14 +33,14 @@ pub const RUNS: Stream = stream(6, "R", 400);
 pub const REVERSES: Stream = stream(9, "V", 1500);
 pub const ROUND_TRIPS: Stream = stream(10, "U", 1000);
 pub const ROOMS_LEFT: Stream = stream(11, "G", 2000);
-pub const LIMITS: Stream = stream(12, "L", 7200);
+pub const LIMITS: Stream = stream(12, "H", 7200);
 
 /// The streams of every letter whose calls read a table for its map, its bounds or its reasons.
 pub const COMPARED: [Stream; 9] = [
     stream(2, "M", 2000),
     BOUND_CALLS,
     PATCH_CALLS,
-    stream(7, "H", 840),
+    stream(7, "L", 840),
     RUNS,
     stream(8, "W", 1200),
     ROUND_TRIPS,
