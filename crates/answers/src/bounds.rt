@@ -1,9 +1,9 @@
-// The bound call, `B`, and the bound call with a limit, `L`, which are lent the same.
+// The bound call, `B`, and the bound call with a limit, `H`, which are lent the same.
 use crate::{digest, print, space};
 use image::bytes::four_bytes;
 use rules::{Bounds, BoundsWithin};
 
-// How much of everything a case lends, and the limit of `L`.
+// How much of everything a case lends, and the limit of `H`.
 #[derive(Drop)]
 pub struct Asked {
     pub image_bytes: usize,
@@ -60,7 +60,7 @@ fn end_line(ids: &[u16]) {
 // Makes the call on this image, map and room, and prints its answer.
 fn answer_call(call: u8, limit: u32, image: &[u8], rows: &[u64], ids: &mut [u16]) {
     print::letter(call);
-    if call == b'L' {
+    if call == b'H' {
         print_within(within::call::bounds_within(image, rows, ids, limit));
         end_line(ids);
         return;

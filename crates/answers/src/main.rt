@@ -46,7 +46,7 @@ fn answer_next() -> bool {
         b'P' => verdicts::answer(b'P', image_bytes),
         b'M' => maps::answer(image_bytes, written_rows),
         b'B' => bounds::answer(b'B', bounds::asked_by(&header)),
-        b'L' => bounds::answer(b'L', bounds::asked_by(&header)),
+        b'H' => bounds::answer(b'H', bounds::asked_by(&header)),
         b'A' => patches::answer(lent),
         b'V' => reverses::answer(image_bytes, room_bytes),
         b'U' => trips::answer(lent),

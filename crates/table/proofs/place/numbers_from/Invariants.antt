@@ -1,0 +1,16 @@
+-- The loop keeps that the numbers stored are those of the records passed.
+use Rattle.rules.proofs.Numbers.{set_next}
+use Prim.Native.Nat.{ℕ, ◌+◌, ◌-◌, ◌≤◌, ◌<◌}
+use mathlib.Core.Path.{◌≡◌, refl, ap, ◌∙◌}
+use lib.ListN.{length, get_or, length-set}
+use Rattle.rules.specs.Blocks.{record_at}
+use Rattle.rules.specs.Records.{number_of}
+use native.Mathlib.Omega.{arith}
+use borrow.Author.Rules.{rules}
+use Rattle.table.proofs.place.numbers_from.Given as goal
+
+abbrev pub invariant-loop-k : goal.invariant-loop-k
+invariant-loop-k l = (l.k ≤ l.count) × (length l.numbers ≡ 64) × ((i : ℕ) → i < l.k → get_or l.numbers i 0 ≡ number_of (record_at l.image (l.first + i)))
+
+abbrev pub decreases-loop-k : goal.decreases-loop-k
+decreases-loop-k l = l.count - l.k

@@ -1,0 +1,40 @@
+use Prim.Native.Nat.{ℕ, ◌-◌, ◌≤◌, ◌<◌}
+use mathlib.Core.Path.{◌≡◌, sym, ap, ◌∙◌}
+use mathlib.Core.List.{List, []}
+use mathlib.Core.Bool.{Bool}
+use lib.ListN.{get_or}
+use Rattle.rules.specs.Numbers.{lowest}
+use Rattle.rules.specs.Blocks.{records, record_at, record_count}
+use Rattle.rules.proofs.Numbers.{lowest_more, lowest_here, lowest_zero, get_or-up_to}
+use Rattle.rules.specs.Records.{range_wrong}
+use native.Mathlib.Omega.{arith}
+use borrow.Author.Rules.{rules}
+use Rattle.table.proofs.range.first_wrong_range.Invariants.{fault}
+use Rattle.table.proofs.range.first_wrong_range.Goals as goal
+
+pub loop-k-init : goal.loop-k-init
+loop-k-init c = (omega arith, lowest_zero (fault c.args.image.now))
+
+pub returns-then-is_range_wrong : goal.returns-then-is_range_wrong
+returns-then-is_range_wrong c =
+    let image = c.args.image.now in
+    let k = c.loop-k.k in
+    let inside : k < record_count image = omega (arith, c.record_count-count.ensures) in
+    let here : fault image k ≡ c.is_range_wrong.result =
+    ap (range_wrong) (get_or-up_to (record_at image) (record_count image) k [] inside ∙ sym c.record_at.ensures) ∙ sym c.is_range_wrong.ensures in
+    sym (lowest_here (fault image) k (record_count image) c.loop-k.invariant.1 (here ∙ c.if-is_range_wrong.true) inside)
+
+pub loop-k-preserved : goal.loop-k-preserved
+loop-k-preserved c =
+    let image = c.args.image.now in
+    let k = c.loop-k.k in
+    let inside : k < record_count image = omega (arith, c.record_count-count.ensures) in
+    let here : fault image k ≡ c.is_range_wrong.result =
+    ap (range_wrong) (get_or-up_to (record_at image) (record_count image) k [] inside ∙ sym c.record_at.ensures) ∙ sym c.is_range_wrong.ensures in
+    (omega arith, lowest_more (fault image) k c.loop-k.invariant.1 (here ∙ c.if-is_range_wrong.false))
+
+pub returns : goal.returns
+returns c =
+    let image = c.args.image.now in
+    let end : c.loop-k.k ≡ record_count image = omega (arith, c.record_count-count.ensures) in
+    sym c.loop-k.invariant.1 ∙ ap (lowest (fault image)) end
