@@ -1,0 +1,16 @@
+-- The loop keeps that the rows passed are written and the others are as they were.
+use Prim.Native.Nat.{◌-◌, ◌≤◌}
+use mathlib.Core.List.{◌++◌}
+use mathlib.Core.Path.{◌≡◌, refl, ◌∙◌}
+use native.Mathlib.Omega.{arith}
+use borrow.Author.Rules.{rules}
+use lib.Seq.{take_all}
+use lib.ListN.{length, take, drop, length-set}
+use Rattle.image.proofs.Writes.{copied_more}
+use Rattle.preempt.proofs.map.write_rows.Given as goal
+
+abbrev pub invariant-loop-i : goal.invariant-loop-i
+invariant-loop-i l = (l.i ≤ 64) × (length l.lent ≡ length l.initial.lent) × (l.lent ≡ take l.i l.map ++ drop l.i l.initial.lent)
+
+abbrev pub decreases-loop-i : goal.decreases-loop-i
+decreases-loop-i l = 64 - l.i
