@@ -1,0 +1,15 @@
+use Prim.Native.Nat.{◌-◌}
+use native.Mathlib.Omega.{arith}
+use borrow.Author.Rules.{rules}
+use Rattle.sets.proofs.Choosing.{Chosen, chosen_none, chosen_more, chosen_all}
+use Rattle.patch.specs.Carried.{cell_carried}
+use Rattle.patch.proofs.carried.carried_row.Goals as goal
+
+pub loop-j-init : goal.loop-j-init
+loop-j-init c = chosen_none
+
+pub loop-j-preserved : goal.loop-j-preserved
+loop-j-preserved c = chosen_more c.loop-j.invariant (omega arith) (omega arith) (rw (← c.is_carried_set-set.ensures) c.with_bit_if-bits.ensures)
+
+pub returns : goal.returns
+returns c = chosen_all c.loop-j.invariant (omega arith)

@@ -1,0 +1,14 @@
+-- A number of 64 bits has none beyond them.
+use Prim.Native.Nat.{◌^◌, ◌<◌}
+use mathlib.Core.Path.{sym}
+use native.Mathlib.Omega.{arith}
+use lib.Pow.{pow_mono}
+use Rattle.rules.proofs.Bits.{bit_lacks}
+use borrow.Author.Rules.{rules}
+use Rattle.patch.proofs.carried.is_cell_set.Goals as goal
+
+pub returns-then-j-ge64 : goal.returns-then-j-ge64
+returns-then-j-ge64 c =
+    let a = c.args in
+    let small : a.bits < 2 ^ a.place = omega (arith, pow_mono {j = a.place} c.if-j-ge64.true) in
+    sym (bit_lacks a.bits a.place small)

@@ -1,0 +1,21 @@
+-- The loop keeps that all records passed are taken out.
+use Prim.Native.Nat.{◌-◌, ◌≤◌, ◌<◌}
+use mathlib.Core.Path.{◌≡◌, sym, ap, ◌∙◌}
+use mathlib.Core.List.{[]}
+use mathlib.Core.Bool.{not}
+use native.Mathlib.Omega.{arith}
+use borrow.Author.Rules.{rules}
+use borrow.Author.Tests.{ne_eqb, eq-eqb}
+use lib.ListN.{get_or}
+use Rattle.rules.specs.Numbers.{lowest}
+use Rattle.rules.specs.Blocks.{records, record_at, record_count}
+use Rattle.rules.specs.Records.{way_of}
+use Rattle.rules.proofs.Numbers.{lowest_more, lowest_here, lowest_zero, get_or-up_to}
+use Rattle.patch.specs.Parts.{is_put_in}
+use Rattle.patch.proofs.parts.first_put_in.Given as goal
+
+abbrev pub invariant-loop-k : goal.invariant-loop-k
+invariant-loop-k l = (l.k ≤ l.count) × (lowest (is_put_in (records l.patch)) l.k ≡ l.k)
+
+abbrev pub decreases-loop-k : goal.decreases-loop-k
+decreases-loop-k l = l.count - l.k
