@@ -1,10 +1,8 @@
 // Reading the table image from standard input.
-ghost use Rattle.std.specs.Prelude.{◌≡◌, ◌≤◌, length};
+ghost use Rattle.std.specs.Prelude.{◌≡◌, ◌≤◌, IfOk, length};
 
-use libc::STDIN_FILENO;
-
-// More reads than any input takes.
-const MOST_READS: u32 = 4_000_000_000;
+use std::io;
+use std::io::Read;
 
 // Room for the longest table image and one byte more, so that a longer input is seen to be too long.
 pub fn space() -> [u8; 11_777]
@@ -14,24 +12,33 @@ pub fn space() -> [u8; 11_777]
 }
 
 // Reads what is left of the input, which is too long to be a table, so that whoever writes it can finish.
-fn drain() {
-    let mut space = io::large_buffer();
-    let mut left = MOST_READS;
-    while 0 < left {
-        if io::read_full(STDIN_FILENO, &mut space) == 0 {
-            return;
+fn drain<R: Read>(input: &mut R) -> io::Result<()> {
+    io::copy(input, &mut io::sink())?;
+    Ok(())
+}
+
+// Reads until the space is full or the input ends, and answers how many bytes there are.
+pub fn read_full<R: Read>(input: &mut R, space: &mut [u8]) -> io::Result<usize>
+    ensures { IfOk result (λ n. n ≤ length space.new) }
+{
+    let mut done = 0;
+    while done < space.len() {
+        let got = input.read(&mut space[done..])?;
+        if got == 0 {
+            break;
         }
-        left -= 1;
+        done += got;
     }
+    Ok(done)
 }
 
 // Reads the input to the start of the space, in whatever pieces it comes, and answers how many bytes there are.
-pub fn read(space: &mut [u8]) -> usize
-    ensures { result ≤ length space.new }
+pub fn read<R: Read>(input: &mut R, space: &mut [u8]) -> io::Result<usize>
+    ensures { IfOk result (λ n. n ≤ length space.new) }
 {
-    let length = io::read_full(STDIN_FILENO, space);
+    let length = read_full(input, space)?;
     if length == space.len() {
-        drain();
+        drain(input)?;
     }
-    length
+    Ok(length)
 }
