@@ -1,8 +1,10 @@
 // Reading the table image from standard input.
-ghost use Rattle.std.specs.Prelude.{◌≡◌, ◌≤◌, IfOk, length};
+ghost use Rattle.std.specs.Prelude.{◌≡◌, ◌≤◌, ◌<◌, IfOk, IfSome, OnOk, length, take};
+ghost use Rattle.std.specs.Io.KnownBytes.{Consumes, IsAtEnd, ReadConsumes};
+ghost use Rattle.std.specs.Io.{ReadsAtMost};
 
 use std::io;
-use std::io::Read;
+use std::io::{ErrorKind, Read};
 
 // Room for the longest table image and one byte more, so that a longer input is seen to be too long.
 pub fn space() -> [u8; 11_777]
@@ -12,18 +14,40 @@ pub fn space() -> [u8; 11_777]
 }
 
 // Reads what is left of the input, which is too long to be a table, so that whoever writes it can finish.
-fn drain<R: Read>(input: &mut R) -> io::Result<()> {
+fn drain<R: Read>(input: &mut R) -> io::Result<()>
+    ensures { OnOk result (IsAtEnd (R.remaining input.new)) }
+{
     io::copy(input, &mut io::sink())?;
     Ok(())
 }
 
+// One read, tried again where a signal interrupts it.
+fn read_some<R: Read>(input: &mut R, space: &mut [u8]) -> io::Result<usize>
+    ensures length_in_bounds { ReadsAtMost result space.new }
+    ensures bytes { ReadConsumes (R.remaining input.old) (R.remaining input.new) result space.new }
+{
+    for _ in 0..u64::MAX {
+        match input.read(space) {
+            Ok(length) => return Ok(length),
+            Err(error) => {
+                if error.kind() != ErrorKind::Interrupted {
+                    return Err(error);
+                }
+            }
+        }
+    }
+    Err(io::Error::from(ErrorKind::Interrupted))
+}
+
 // Reads until the space is full or the input ends, and answers how many bytes there are.
 pub fn read_full<R: Read>(input: &mut R, space: &mut [u8]) -> io::Result<usize>
-    ensures { IfOk result (λ n. n ≤ length space.new) }
+    ensures length_in_bounds { IfOk result (λ n. n ≤ length space.new) }
+    ensures bytes { IfOk result (λ n. Consumes (R.remaining input.old) (R.remaining input.new) (take n space.new)) }
+    ensures end { IfOk result (λ n. n < length space.new → IsAtEnd (R.remaining input.new)) }
 {
     let mut done = 0;
     while done < space.len() {
-        let got = input.read(&mut space[done..])?;
+        let got = read_some(input, &mut space[done..])?;
         if got == 0 {
             break;
         }
@@ -34,7 +58,9 @@ pub fn read_full<R: Read>(input: &mut R, space: &mut [u8]) -> io::Result<usize>
 
 // Reads the input to the start of the space, in whatever pieces it comes, and answers how many bytes there are.
 pub fn read<R: Read>(input: &mut R, space: &mut [u8]) -> io::Result<usize>
-    ensures { IfOk result (λ n. n ≤ length space.new) }
+    ensures length_in_bounds { IfOk result (λ n. n ≤ length space.new) }
+    ensures bytes { IfOk result (λ n. IfSome (R.remaining input.old) (λ bytes. take n space.new ≡ take (length space.new) bytes)) }
+    ensures end { OnOk result (IsAtEnd (R.remaining input.new)) }
 {
     let length = read_full(input, space)?;
     if length == space.len() {
