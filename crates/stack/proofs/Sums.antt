@@ -3,7 +3,7 @@ use Prim.Native.Nat.{ℕ, zero, suc, ◌+◌, ◌*◌, ◌^◌, ◌≤◌, ◌<�
 use lib.Count.{count_trailing_zeros}
 use mathlib.Core.List.{List, [], ◌∷◌}
 use mathlib.Core.Bool.{true, false}
-use mathlib.Core.Path.{◌≡◌, refl, sym, ◌∙◌}
+use mathlib.Core.Path.{◌≡◌, refl, sym, subst, ◌∙◌}
 use mathlib.Core.Logic.{◌⊎◌, inl, ⊎_elim}
 use native.Mathlib.Omega.{arith}
 use lib.ListN.{length, get_or, replicate, set as set_at, length-set}
@@ -210,7 +210,7 @@ module _ {n : ℕ} {rows sizes order : List ℕ} {cover : ℕ} (ready : Ready n 
         settled = λ j h g.
             without_outside rest i smaller taken j g
             (λ o. rw (get_or-set_other sums i j sum 0 (λ e. never (bit_at rest i) there (rw (sym e) o))) (so_far.settled j h o))
-            (λ e. rw (e, same) (settle n rows sizes cover place (so_far.inside i there) meet largest (λ m l may. so_far.settled m l (underway_done so_far below m may))));
+            (λ e. subst (λ (p : ℕ). PathFrom n rows sizes cover p (get_or (set_at sums i sum) p 0)) (sym e) (rw same (settle n rows sizes cover place (so_far.inside i there) meet largest (λ m l may. so_far.settled m l (underway_done so_far below m may)))));
         light = λ j h g.
             without_outside rest i smaller taken j g
             (λ o. rw (get_or-set_other sums i j sum 0 (λ e. never (bit_at rest i) there (rw (sym e) o))) (omega (arith, so_far.light j h o)))

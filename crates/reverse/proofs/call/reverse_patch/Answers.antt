@@ -14,13 +14,16 @@ use Rattle.reverse.proofs.call.reverse_patch.Goals as goal
 pub returns-then-verdict-ne0 : goal.returns-then-verdict-ne0
 returns-then-verdict-ne0 c =
     let verdict = c.patch_verdict-verdict in
-    let a = c.args in let both_given = rw (c.refused.ensures ∙ ap reverse_refusal verdict.ensures)
-    (reverse_refused a.patch.now a.room.now (other_refused _ _ verdict.ensures c.if-verdict-ne0.true)) in record { value = both_given.0; room_after = both_given.1 }
+    let a = c.args in
+    let call = reverse_refused a.patch.now a.room.now (other_refused _ _ verdict.ensures c.if-verdict-ne0.true) in
+    record { value = rw (c.refused.ensures ∙ ap reverse_refusal verdict.ensures) call.0; room_after = call.1 }
 
 pub returns-then-room-patch : goal.returns-then-room-patch
 returns-then-room-patch c =
     let right : accepted (patch_verdict c.args.patch.now) ≡ true = zero_accepted _ _ c.patch_verdict-verdict.ensures c.if-verdict-ne0.false in
-    let a = c.args in let both_given = rw c.refused-then-room-patch.ensures (reverse_short a.patch.now a.room.now right (omega (arith, c.if-room-patch.true))) in record { value = both_given.0; room_after = both_given.1 }
+    let a = c.args in
+    let call = reverse_short a.patch.now a.room.now right (omega (arith, c.if-room-patch.true)) in
+    record { value = rw c.refused-then-room-patch.ensures call.0; room_after = call.1 }
 
 pub write_reverse-requires : goal.write_reverse-requires
 write_reverse-requires c =
@@ -35,5 +38,6 @@ overflow_cast-result c =
 pub returns : goal.returns
 returns c =
     let right : accepted (patch_verdict c.args.patch.now) ≡ true = zero_accepted _ _ c.patch_verdict-verdict.ensures c.if-verdict-ne0.false in
-    let a = c.args in let both_given = rw (c.write_reverse.ensures.0, c.write_reverse.ensures.1)
-    (reverse_done a.patch.now a.room.now right (omega (arith, c.if-room-patch.false))) in record { value = both_given.0; room_after = both_given.1 }
+    let a = c.args in
+    let call = reverse_done a.patch.now a.room.now right (omega (arith, c.if-room-patch.false)) in
+    record { value = rw c.write_reverse.ensures.0 call.0; room_after = rw c.write_reverse.ensures.1 call.1 }

@@ -10,7 +10,7 @@ slice_bounds-write_image-end c =
     reverse_inside _ c.requires.patch_value _ _ _ c.requires.in_bounds.0 c.write_reversed-bytes.ensures
 
 pub slice_bounds-write_image-end-2 : goal.slice_bounds-write_image-end-2
-slice_bounds-write_image-end-2 c = sym (length-take-le _ _ (slice-reshare-prefix-write-image c))
+slice_bounds-write_image-end-2 c = sym (length-take-le _ _ (slice_bounds-write_image-end c))
 
 pub returns : goal.returns
 returns c =

@@ -1,0 +1,15 @@
+use Prim.Native.Nat.{◌-◌}
+use Rattle.stack.specs.Related.{is_higher}
+use Rattle.sets.proofs.Choosing.{Chosen, chosen_none, chosen_more, chosen_all}
+use native.Mathlib.Omega.{arith}
+use borrow.Author.Rules.{rules}
+use Rattle.stack.proofs.related.higher.Goals as goal
+
+pub loop-place-init : goal.loop-place-init
+loop-place-init c = chosen_none
+
+pub loop-place-preserved : goal.loop-place-preserved
+loop-place-preserved c = chosen_more c.loop-place.invariant (omega arith) (omega arith) c.with_bit_if-set.ensures
+
+pub returns : goal.returns
+returns c = chosen_all c.loop-place.invariant (omega arith)
