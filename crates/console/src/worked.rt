@@ -1,5 +1,6 @@
 // The bounds of the table image that standard input holds.
-ghost use Rattle.std.specs.Prelude.{◌≡◌, ◌≤◌, IfOk, length, take};
+ghost use Rattle.std.specs.Prelude.{◌≡◌, ◌≤◌, IfOk, IfSome, OnOk, length, take};
+ghost use Rattle.std.specs.Io.KnownBytes.{IsAtEnd};
 ghost use Rattle.rules.specs.Calls.{map_after, BoundCall};
 
 use crate::input::read;
@@ -26,7 +27,8 @@ fn own_bounds(image: &[u8], rows: &mut [u64], ids: &mut [u16]) -> Bounds
     find_bounds(image, rows, ids)
 }
 
-// Reads the input into the space and finds its bounds over its own map, with the chain in the ids. A refusal is printed.
+// Reads the input into the space and finds its bounds over its own map, with the chain in the ids. A refusal is printed. Where the
+// input fails, rows and ids stay as they were, and where printing fails, they hold the answer that was not told.
 pub fn work_out<R: Read>(
     input: &mut R,
     out: &impl Print,
@@ -34,9 +36,11 @@ pub fn work_out<R: Read>(
     rows: &mut [u64],
     ids: &mut [u16],
 ) -> io::Result<Worked>
-    ensures length_in_bounds { IfOk result (λ w. w.length ≤ length space.new) }
-    ensures rows_after { IfOk result (λ w. rows.new ≡ map_after (take w.length space.new) rows.old) }
-    ensures bound_call { IfOk result (λ w. BoundCall (take w.length space.new) rows.new ids.old w.bounds ids.new) }
+    ensures length_in_bounds { IfOk result (λ worked. worked.length ≤ length space.new) }
+    ensures bytes { IfOk result (λ worked. IfSome (R.remaining input.old) (λ bytes. take worked.length space.new ≡ take (length space.new) bytes)) }
+    ensures end { OnOk result (IsAtEnd (R.remaining input.new)) }
+    ensures rows_after { IfOk result (λ worked. rows.new ≡ map_after (take worked.length space.new) rows.old) }
+    ensures bound_call { IfOk result (λ worked. BoundCall (take worked.length space.new) rows.new ids.old worked.bounds ids.new) }
 {
     let length = read(input, space)?;
     let bounds = own_bounds(&space[..length], rows, ids);

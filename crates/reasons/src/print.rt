@@ -36,21 +36,20 @@ fn pair_lines(
 ) -> io::Result<()>
     requires image_value { accepted (table_verdict image.now) ≡ true }
     requires before_value { before.now ≡ before_map (records image.now) }
-    requires count_in_bounds { (count ≤ length ids.now) × ((k : ℕ) → k < count → listed (tasks (records image.now)) (get_or ids.now k 0) ≡ true) }
+    requires count_in_bounds { count ≤ length ids.now }
+    requires all_listed { (k : ℕ) → k < count → listed (tasks (records image.now)) (get_or ids.now k 0) ≡ true }
 {
     if count == 0 {
         return Ok(());
     }
     let mut low = ids[0];
     let mut place = task_place(image, low as u32);
-    let mut k: usize = 1;
-    while k < count {
+    for k in 1..count {
         let high = ids[k];
         let next = task_place(image, high as u32);
         line(out, low, high, reason_at(image, before, place, next))?;
         low = high;
         place = next;
-        k += 1;
     }
     Ok(())
 }
@@ -58,7 +57,8 @@ fn pair_lines(
 // The same, with those rows worked out once for all lines.
 pub fn neighbours(out: &impl Print, image: &[u8], ids: &[u16], count: usize) -> io::Result<()>
     requires image_value { accepted (table_verdict image.now) ≡ true }
-    requires count_in_bounds { (count ≤ length ids.now) × ((k : ℕ) → k < count → listed (tasks (records image.now)) (get_or ids.now k 0) ≡ true) }
+    requires count_in_bounds { count ≤ length ids.now }
+    requires all_listed { (k : ℕ) → k < count → listed (tasks (records image.now)) (get_or ids.now k 0) ≡ true }
 {
     let mut before = [0u64; 64];
     judge_table(image, &mut before);

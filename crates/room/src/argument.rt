@@ -40,13 +40,12 @@ fn with_digit(number: u64, byte: u8) -> u64
 
 // The number that the digits say, or NONE where one of them is no digit or the number is no reserve.
 fn number_of(digits: &[u8]) -> u64
-    ensures { (result ≡ said digits.now) × (result ≤ 4294967296) }
+    ensures value { result ≡ said digits.now }
+    ensures in_bounds { result ≤ 4294967296 }
 {
     let mut number: u64 = 0;
-    let mut k: usize = 0;
-    while k < digits.len() {
-        number = with_digit(number, digits[k]);
-        k += 1;
+    for digit in digits {
+        number = with_digit(number, *digit);
     }
     number
 }

@@ -34,12 +34,11 @@ fn line(out: &impl Print, id: u32, figure: i64) -> io::Result<()> {
 
 // A line for each of the first ids, with the figure of its place.
 fn lines(out: &impl Print, ids: &[u32], figures: &[i64], count: usize) -> io::Result<()>
-    requires { (count ≤ length ids.now) × (count ≤ length figures.now) }
+    requires ids_in_bounds { count ≤ length ids.now }
+    requires figures_in_bounds { count ≤ length figures.now }
 {
-    let mut place: usize = 0;
-    while place < count {
+    for place in 0..count {
         line(out, ids[place], figures[place])?;
-        place += 1;
     }
     Ok(())
 }

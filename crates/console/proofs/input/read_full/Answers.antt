@@ -1,5 +1,5 @@
 -- A read puts its bytes behind those that stand there already, and takes them from the input.
-use Rattle.std.proofs.Common.{rules, length, take, ◌-◌, ◌++◌, subst}
+use Rattle.std.proofs.Common.{rules, length, ◌-◌, subst}
 use Rattle.std.specs.Io.KnownBytes.{Consumes}
 use Rattle.std.proofs.KnownBytes.{Consumes-trans}
 use Rattle.console.proofs.Filled.{filled}
