@@ -12,7 +12,7 @@ use Rattle.rules.specs.declared.Verdict.{Verdict}
 use Rattle.rules.specs.Blocks.{records}
 use Rattle.rules.specs.Records.{task_count}
 use Rattle.rules.specs.declared.Bounds.{Bounds}
-use Rattle.rules.specs.Chains.{Chain, chain_ids}
+use Rattle.rules.specs.Chains.{Chain, chain_ids, related}
 use Rattle.rules.specs.Refusals.{accepted, refusal, table_verdict}
 use Rattle.rules.specs.Calls.{over, BoundCall, BoundsWorkedOut, bound_verdict, bound_refusal}
 use Rattle.rules.proofs.Numbers.{never}
@@ -79,3 +79,36 @@ worked_out rs lent ids found right later count counted long written =
     -- the chain has as many places as it is long
     chain_long : length (take found.length found.places) ≡ found.length
     chain_long = length-take-le found.length found.places (omega (arith, right.room))
+
+module _ (image lent ids : List ℕ) where
+  -- the three answers of a bound call: the table's refusal, a short map or room, or what was found
+  pub by_table : accepted (table_verdict image) ≡ false → BoundCall image lent ids (bound_refusal (table_verdict image)) ids
+  by_table no' = refused_by image lent ids (table_verdict image) (table_refuses image lent ids no') no'
+
+  pub by_short : accepted (table_verdict image) ≡ true → (ltb (length lent) 64 || ltb (length ids) 64) ≡ true
+      → BoundCall image lent ids (bound_refusal (refusal 11 0)) ids
+  by_short yes' short = refused_by image lent ids (refusal 11 0) (short_refuses image lent ids yes' short) refl
+
+  module _ (yes' : accepted (table_verdict image) ≡ true) (map_long : 64 ≤ length lent) (room_long : 64 ≤ length ids) (found : Found) (right : FoundFor (records image) lent found) where
+    -- the figures that were found are those that the answer speaks of
+    pub answered : (later : List ℕ) (count : ℕ) → count ≡ task_count (records image) → length found.places ≡ 64 → later ≡ over (chain_ids (records image) (figures_in found)) ids
+        → BoundCall image lent ids
+        (record {
+          number = 0;
+          place = 0;
+          tasks = count;
+          chain = found.chain;
+          path = found.path;
+          transactions = found.transactions;
+          levels = found.levels;
+          length = found.length;
+        })
+        later
+    answered later count counted long written =
+        worked_by image lent ids (none_refuses image lent ids yes' map_long room_long) _ _
+        (worked_out (records image) lent ids found right later count counted long written)
+
+    -- every place of the chain is a task's
+    pub places_below : (few : task_count (records image) ≤ 64) (k : ℕ) → length found.places ≡ 64 → k < found.length → get_or found.places k 0 < 64
+    places_below few k long h =
+        omega (arith, first_below (task_count (records image)) (related (records image) lent) found.length found.places (omega (arith, right.room)) right.right.chain.among k h)

@@ -6,7 +6,7 @@ ghost use Rattle.rules.specs.Calls.{over, BoundCall, bound_refusal};
 ghost use Rattle.preempt.specs.Tasks.{TasksRead, priority_column, size_column, threshold_column};
 ghost use Rattle.rules.specs.Records.{transactions};
 ghost use Rattle.stack.specs.Setting.{Ready, RowsRise};
-ghost use Rattle.stack.specs.Figures.{FoundOver, PreparedOver, BoundsOver};
+ghost use Rattle.stack.specs.Figures.{FoundOver, FoundFor, PreparedOver, BoundsOver};
 
 use crate::levels::level_bound;
 use crate::order::by_falling_priority;
@@ -78,6 +78,21 @@ fn find_over(
     }
 }
 
+// The chain and the bounds of an accepted table over a lent map, from what was read of its tasks.
+fn find(image: &[u8], columns: &Columns, count: usize, map: &[u64]) -> Found
+    requires image_value { accepted (table_verdict image.now) ≡ true }
+    requires tasks_read { TasksRead (records image.now) count columns.now }
+    requires in_bounds { 64 ≤ length map.now }
+    ensures { FoundFor (records image.now) map.now result }
+{
+    let priorities = column_of(columns, PRIORITIES);
+    let sizes = column_of(columns, SIZES);
+    let numbers = column_of(columns, TRANSACTIONS);
+    let rows = related_rows(column_of(columns, THRESHOLDS), priorities, map, count);
+    let order = by_falling_priority(priorities, count);
+    find_over(image, priorities, sizes, numbers, &rows, &order, count)
+}
+
 // What the bounds are worked out over: the rows of the relation, and the places by falling priority.
 #[derive(Drop)]
 pub struct Prepared {
@@ -132,18 +147,18 @@ pub fn bounds_over<'a>(
     let priorities = column_of(columns, PRIORITIES);
     let sizes = column_of(columns, SIZES);
     let numbers = column_of(columns, TRANSACTIONS);
-    let found = find_over(image, priorities, sizes, numbers, rows, order, count);
-    let places = found.places;
-    let length = found.length;
+    let reached = find_over(image, priorities, sizes, numbers, rows, order, count);
+    let places = reached.places;
+    let length = reached.length;
     write_ids(places, length, column_of(columns, IDS), ids);
     Bounds {
         number: 0,
         place: 0,
         tasks: count as u32,
-        chain: found.chain,
-        path: found.path,
-        transactions: found.transactions,
-        levels: found.levels,
+        chain: reached.chain,
+        path: reached.path,
+        transactions: reached.transactions,
+        levels: reached.levels,
         length: length as u32,
     }
 }
@@ -164,13 +179,18 @@ pub fn find_bounds(image: &[u8], map: &[u64], ids: &mut [u16]) -> Bounds
         return refused(11, 0);
     }
     let tasks = read_tasks(image);
-    let prepared = prepare(&tasks.columns, tasks.count, map);
-    bounds_over(
-        image,
-        &tasks.columns,
-        tasks.count,
-        &prepared.rows,
-        &prepared.order,
-        ids,
-    )
+    let found = find(image, &tasks.columns, tasks.count, map);
+    let places = found.places;
+    let length = found.length;
+    write_ids(places, length, column_of(&tasks.columns, IDS), ids);
+    Bounds {
+        number: 0,
+        place: 0,
+        tasks: tasks.count as u32,
+        chain: found.chain,
+        path: found.path,
+        transactions: found.transactions,
+        levels: found.levels,
+        length: length as u32,
+    }
 }

@@ -20,16 +20,16 @@ use native.Mathlib.Omega.{arith}
 use borrow.Author.Rules.{rules}
 use Rattle.stack.proofs.call.bounds_over.Goals as goal
 
-pub find_over-found-requires : goal.find_over-found-requires
-find_over-found-requires c =
+pub find_over-reached-requires : goal.find_over-reached-requires
+find_over-reached-requires c =
     let pre = c.requires in record { image_value = pre.image_value; ready = rw c.column_of-sizes.ensures pre.ready; rows_rise = rw c.column_of-priorities.ensures pre.rows_rise; numbers_len = rw c.column_of-numbers.ensures (column_long _ _ pre.tasks_read.columns.transactions) }
 
 pub write_ids-requires : goal.write_ids-requires
 write_ids-requires c =
-    let long : length c.find_over-found.result.places ≡ 64 = search rules in
+    let long : length c.find_over-reached.result.places ≡ 64 = search rules in
     let image = c.args.image.now in
     let read = c.requires.tasks_read in
-    let found = c.find_over-found in
+    let found = c.find_over-reached in
     let named = c.column_of.ensures in record { places_len = (long, found.ensures.room, rw named (column_long _ _ read.columns.ids), c.requires.in_bounds); by_index = λ k h. omega (arith, first_below c.args.count (cell c.args.rows.now) found.result.length found.result.places (omega (arith, found.ensures.room)) found.ensures.heaviest.among k h, c.requires.ready.arrays.few); by_index_2 = rw named (ids_small image c.type_inv.image c.requires.image_value c.args.count c.args.columns.now read) }
 
 pub overflow_cast-result : goal.overflow_cast-result
@@ -44,7 +44,7 @@ returns c lent same =
     let columns = c.args.columns.now in
     let read = c.requires.tasks_read in
     let rows = c.args.rows.now in
-    let found = c.find_over-found in
+    let found = c.find_over-reached in
     let whole = shape c.args.image.now c.type_inv.image c.requires.image_value in
     let long : length found.result.places ≡ 64 = search rules in
     let over' : FoundOver count rows (size_column columns) (priority_column columns) (transaction_column columns) (transactions rs) found.result = rw (← c.column_of-sizes.ensures, ← c.column_of-priorities.ensures, ← c.column_of-numbers.ensures) found.ensures in
