@@ -28,7 +28,8 @@ pub struct Taken {
 
 // A step that the stream did not have.
 fn broken() -> Taken
-    ensures { (result.length ≡ 0) × (result.rows ≡ 0) }
+    ensures length { result.length ≡ 0 }
+    ensures rows { result.rows ≡ 0 }
 {
     Taken {
         is_read: false,

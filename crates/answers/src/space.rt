@@ -89,12 +89,11 @@ fn eight_bytes(bytes: &[u8], at: usize) -> u64
 
 // Sets the first count rows from their bytes.
 fn set_rows(rows: &mut [u64], bytes: &[u8], count: usize)
-    requires { (count ≤ length rows.old) × (count ≤ 80) }
+    requires in_bounds { count ≤ length rows.old }
+    requires few { count ≤ 80 }
 {
-    let mut k: usize = 0;
-    while k < count {
+    for k in 0..count {
         rows[k] = eight_bytes(bytes, 8 * k);
-        k += 1;
     }
 }
 
@@ -118,12 +117,11 @@ pub fn fill_rows(input: &mut impl Read, rows: &mut [u64], count: usize) -> io::R
 
 // Sets the first count ids from their bytes.
 fn set_ids(ids: &mut [u16], bytes: &[u8], count: usize)
-    requires { (count ≤ length ids.old) × (count ≤ 96) }
+    requires in_bounds { count ≤ length ids.old }
+    requires few { count ≤ 96 }
 {
-    let mut k: usize = 0;
-    while k < count {
+    for k in 0..count {
         ids[k] = two_bytes(bytes, 2 * k) as u16;
-        k += 1;
     }
 }
 
@@ -155,13 +153,11 @@ fn signed_of(bits: u64) -> i64 {
 
 // Sets the first count figures from their bytes.
 fn set_figures(figures: &mut [i64], bytes: &[u8], count: usize)
-    requires { (count ≤ length figures.old) × (count ≤ 80) }
+    requires in_bounds { count ≤ length figures.old }
+    requires few { count ≤ 80 }
 {
-    let mut k: usize = 0;
-    while k < count {
-        let figure = signed_of(eight_bytes(bytes, 8 * k));
-        figures[k] = figure;
-        k += 1;
+    for k in 0..count {
+        figures[k] = signed_of(eight_bytes(bytes, 8 * k));
     }
 }
 
