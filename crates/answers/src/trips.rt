@@ -52,21 +52,12 @@ fn answer_steps(
     if !taken.is_read {
         return Ok(false);
     }
-    if !taken.is_accepted {
-        return answer_steps(out, left - 1, base, base_map, other, next, made, lent);
-    }
-    let length = taken.length;
-    let rows = taken.rows;
-    answer_steps(
-        out,
-        left - 1,
-        &room[..length],
-        &new_map[..rows],
-        other,
-        next,
-        made,
-        lent,
-    )
+    let (standing, map) = if taken.is_accepted {
+        (&room[..taken.length], &new_map[..taken.rows])
+    } else {
+        (base, base_map)
+    };
+    answer_steps(out, left - 1, standing, map, other, next, made, lent)
 }
 
 // Makes the reverse in the space for it and answers the round trip, or says that the stream lends too much.
