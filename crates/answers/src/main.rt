@@ -1,4 +1,5 @@
-// A test program: reads a stream of cases (docs/STREAM.md) from standard input and prints the answer to each.
+// A test program: reads a stream of cases (docs/STREAM.md) from standard input and prints the answer to each. An error of reading or
+// printing ends it, and leaves what was printed before.
 
 #![tactic(auto)]
 

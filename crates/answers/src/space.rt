@@ -1,5 +1,5 @@
 // Room for what a case lends, and reading it from the stream.
-ghost use Rattle.std.specs.Prelude.{◌≡◌, ◌≤◌, IfOk, length};
+ghost use Rattle.std.specs.Prelude.{◌≡◌, ◌≤◌, IfOk, OnErr, length};
 
 use console::input::read_full;
 use image::bytes::{four_bytes, two_bytes};
@@ -99,7 +99,8 @@ fn set_rows(rows: &mut [u64], bytes: &[u8], count: usize)
 
 // Reads count rows to the start of a map and answers how many came: none where the stream or the map ends before.
 pub fn fill_rows(input: &mut impl Read, rows: &mut [u64], count: usize) -> io::Result<usize>
-    ensures { IfOk result (λ n. n ≤ length rows.new) }
+    ensures in_bounds { IfOk result (λ n. n ≤ length rows.new) }
+    ensures kept { OnErr result (rows.new ≡ rows.old) }
 {
     if 80 < count {
         return Ok(0);
@@ -127,7 +128,8 @@ fn set_ids(ids: &mut [u16], bytes: &[u8], count: usize)
 
 // Reads count ids to the start of a room and answers how many came: none where the stream or the room ends before.
 pub fn fill_ids(input: &mut impl Read, ids: &mut [u16], count: usize) -> io::Result<usize>
-    ensures { IfOk result (λ n. n ≤ length ids.new) }
+    ensures in_bounds { IfOk result (λ n. n ≤ length ids.new) }
+    ensures kept { OnErr result (ids.new ≡ ids.old) }
 {
     if 96 < count {
         return Ok(0);
@@ -163,7 +165,8 @@ fn set_figures(figures: &mut [i64], bytes: &[u8], count: usize)
 
 // Reads count figures to the start of a room and answers how many came: none where the stream or the room ends before.
 pub fn fill_figures(input: &mut impl Read, figures: &mut [i64], count: usize) -> io::Result<usize>
-    ensures { IfOk result (λ n. n ≤ length figures.new) }
+    ensures in_bounds { IfOk result (λ n. n ≤ length figures.new) }
+    ensures kept { OnErr result (figures.new ≡ figures.old) }
 {
     if 80 < count {
         return Ok(0);

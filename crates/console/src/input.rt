@@ -39,8 +39,8 @@ fn read_some<R: Read>(input: &mut R, space: &mut [u8]) -> io::Result<usize>
     Err(io::Error::from(ErrorKind::Interrupted))
 }
 
-// Reads until the space is full or the input ends, and answers how many bytes there are. Where a read fails, those before it are
-// lost.
+// Reads until the space is full or the input ends, and answers how many bytes there are. An error leaves some of them in the space,
+// and their number is lost.
 pub fn read_full<R: Read>(input: &mut R, space: &mut [u8]) -> io::Result<usize>
     ensures length_in_bounds { IfOk result (λ n. n ≤ length space.new) }
     ensures bytes { IfOk result (λ n. Consumes (R.remaining input.old) (R.remaining input.new) (take n space.new)) }
@@ -57,8 +57,7 @@ pub fn read_full<R: Read>(input: &mut R, space: &mut [u8]) -> io::Result<usize>
     Ok(done)
 }
 
-// Reads the input to its end and the start of it into the space, in whatever pieces it comes, and answers how many bytes there
-// are.
+// Reads the input to its end, in whatever pieces it comes, and answers how many of its bytes stand at the start of the space.
 pub fn read<R: Read>(input: &mut R, space: &mut [u8]) -> io::Result<usize>
     ensures length_in_bounds { IfOk result (λ n. n ≤ length space.new) }
     ensures bytes { IfOk result (λ n. IfSome (R.remaining input.old) (λ bytes. take n space.new ≡ take (length space.new) bytes)) }

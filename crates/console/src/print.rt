@@ -1,4 +1,4 @@
-// The parts of a printed line.
+// The parts of a printed line. An error leaves what was written before it.
 use std::io;
 
 pub fn text(out: &impl Print, bytes: &[u8]) -> io::Result<()> {

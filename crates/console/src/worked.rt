@@ -27,8 +27,8 @@ fn own_bounds(image: &[u8], rows: &mut [u64], ids: &mut [u16]) -> Bounds
     find_bounds(image, rows, ids)
 }
 
-// Reads the input into the space and finds its bounds over its own map, with the chain in the ids. A refusal is printed. Where the
-// input fails, rows and ids stay as they were, and where printing fails, they hold the answer that was not told.
+// Reads the input into the space and finds its bounds over its own map, with the chain in the ids. A refusal is printed. An error
+// of reading leaves rows and ids as they were, and one of printing leaves the answer in them.
 pub fn work_out<R: Read>(
     input: &mut R,
     out: &impl Print,
