@@ -1,7 +1,6 @@
 -- The verdict of the checks that need no outcome decides, and the part starts where the record at its place does.
 use native.Mathlib.Omega.{arith}
 use Rattle.siodlomil.proofs.Calls.{offends, offends_not}
-use borrow.Author.Rules.{rules}
 use Rattle.siodlomil.proofs.siodlomil_offending.Goals as goal
 
 pub returns-then-verdict-ne9 : goal.returns-then-verdict-ne9

@@ -1,14 +1,9 @@
 -- The loop keeps that the sums so far and the weighted bytes are together the last sum, once more than bytes are passed.
-use Prim.Native.Nat.{ℕ, ◌+◌, ◌*◌, ◌-◌, ◌%◌, ◌≤◌}
-use mathlib.Core.Path.{◌≡◌, ap, sym, ◌∙◌}
+use Prim.Native.Nat.{ℕ, ◌+◌, ◌*◌, ◌-◌, ◌≤◌}
+use mathlib.Core.Path.{◌≡◌}
 use mathlib.Core.List.{List}
-use native.Mathlib.Nat.{mul-add, add-mul, one-mul}
-use native.Mathlib.Omega.{arith}
-use borrow.Author.Rules.{rules}
 use lib.ListN.{get_or}
 use Rattle.rules.specs.Numbers.{sum_to}
-use Rattle.rules.specs.Blocks.{check_of}
-use Rattle.rules.proofs.Numbers.{sum_to_step, sum_to_zero}
 use Rattle.image.proofs.block.check_of.Given as goal
 
 abbrev pub term : List ℕ → ℕ → ℕ

@@ -1,6 +1,5 @@
 -- Each letter is compared as the definition does, in its order.
 use borrow.Author.Tests.{eq-eqb, ne_eqb}
-use borrow.Author.Rules.{rules}
 use Rattle.image.proofs.block.differs.Goals as goal
 
 pub returns-then-byte_at-wide : goal.returns-then-byte_at-wide

@@ -1,5 +1,4 @@
 -- The stored number and the worked-out one are compared as the definition does.
-use borrow.Author.Rules.{rules}
 use Rattle.image.proofs.block.is_check_wrong.Goals as goal
 
 pub returns : goal.returns

@@ -1,7 +1,6 @@
 -- Each return follows the tests on the way.
 use borrow.Author.Tests.{eq-eqb, ne_eqb, le-leb, lt-leb}
 use native.Mathlib.Omega.{arith}
-use borrow.Author.Rules.{rules}
 use Rattle.image.proofs.block.is_count_right.Goals as goal
 
 pub returns-then-b-total : goal.returns-then-b-total

@@ -3,7 +3,6 @@ use Prim.Native.Nat.{◌+◌, ◌*◌, ◌-◌}
 use mathlib.Core.Path.{◌≡◌}
 use Rattle.rules.proofs.Bytes.{blank_true}
 use native.Mathlib.Omega.{arith}
-use borrow.Author.Rules.{rules}
 use Rattle.image.proofs.block.is_fill_wrong.Goals as goal
 
 pub returns-then-count-gt15 : goal.returns-then-count-gt15

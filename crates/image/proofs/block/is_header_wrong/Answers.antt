@@ -1,7 +1,6 @@
 -- Each test in turn is that of the definition, which stops at the first that finds a fault.
 use borrow.Author.Tests.{eq-eqb, ne_eqb}
 use Rattle.rules.specs.Blocks.{header_wrong}
-use borrow.Author.Rules.{rules}
 use Rattle.image.proofs.block.is_header_wrong.Goals as goal
 
 pub returns-then-is_mark_wrong : goal.returns-then-is_mark_wrong

@@ -1,5 +1,4 @@
 -- The letters are those of the form that the arm found.
-use borrow.Author.Rules.{rules}
 use Rattle.image.proofs.block.is_mark_wrong.Goals as goal
 
 pub returns-in-Table : goal.returns-in-Table

@@ -1,16 +1,8 @@
 -- The loop keeps that every byte passed is zero; past the end of the slice every byte reads as 0.
 -- past the end of a list every place reads as 0
 use Prim.Native.Nat.{ℕ, ◌+◌, ◌-◌, ◌≤◌, ◌<◌}
-use mathlib.Core.Path.{◌≡◌, sym}
-use borrow.Author.Count.{below_more}
-use mathlib.Core.List.{List}
-use lib.ListN.{length, get_or, get_or-eq_default}
-use lib.Dec.{ltb}
-use borrow.Author.Tests.{ltb-true, ltb-false}
-use Rattle.rules.proofs.Bytes.{blank_true, blank_false}
-use Rattle.rules.proofs.Numbers.{either}
-use native.Mathlib.Omega.{arith}
-use borrow.Author.Rules.{rules}
+use mathlib.Core.Path.{◌≡◌}
+use lib.ListN.{get_or}
 use Rattle.image.proofs.bytes.is_blank.Given as goal
 
 abbrev pub invariant-loop-k : goal.invariant-loop-k

@@ -1,12 +1,7 @@
 -- The loop keeps that every byte passed is the same in both; lists of one length with the same bytes are equal.
 use Prim.Native.Nat.{ℕ, ◌-◌, ◌≤◌, ◌<◌}
-use mathlib.Core.Path.{◌≡◌, ap, sym}
+use mathlib.Core.Path.{◌≡◌}
 use lib.ListN.{length, get_or}
-use lib.Seq.{ext_get_or}
-use borrow.Author.Count.{below_more}
-use borrow.Author.Rules.{rules}
-use native.Mathlib.Omega.{arith}
-use Rattle.rules.proofs.Patch.Members.{same_refl, same_other}
 use Rattle.image.proofs.bytes.is_same.Given as goal
 
 abbrev pub invariant-loop-k : goal.invariant-loop-k

@@ -2,7 +2,6 @@
 use mathlib.Core.Path.{sym}
 use Rattle.rules.proofs.Bytes.{le2-past}
 use native.Mathlib.Omega.{arith}
-use borrow.Author.Rules.{rules}
 use Rattle.image.proofs.bytes.two_bytes.Goals as goal
 
 pub returns-else-at-s : goal.returns-else-at-s

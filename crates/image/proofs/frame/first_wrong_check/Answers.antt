@@ -1,13 +1,10 @@
 use mathlib.Core.Path.{◌≡◌, sym, ap, ◌∙◌}
 use Rattle.image.proofs.Parts.{part_size}
-use Rattle.rules.specs.Blocks.{block_at, block_count, check_wrong}
-use Prim.Native.Nat.{ℕ, ◌*◌, ◌-◌, ◌≤◌}
-use mathlib.Core.List.{List}
-use mathlib.Core.Bool.{Bool}
+use Rattle.rules.specs.Blocks.{block_count, check_wrong}
+use Prim.Native.Nat.{◌*◌}
 use Rattle.rules.specs.Numbers.{lowest}
 use Rattle.rules.proofs.Numbers.{lowest_more, lowest_here, lowest_zero}
 use native.Mathlib.Omega.{arith}
-use borrow.Author.Rules.{rules}
 use Rattle.image.proofs.frame.first_wrong_check.Invariants.{fault}
 use Rattle.image.proofs.frame.first_wrong_check.Goals as goal
 

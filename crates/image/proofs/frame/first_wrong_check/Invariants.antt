@@ -1,14 +1,10 @@
 -- The loop keeps that no block passed has a wrong check; the part handed over is the block.
-use mathlib.Core.Path.{◌≡◌, sym, ap, ◌∙◌}
-use Rattle.image.proofs.Parts.{part_size}
-use Rattle.rules.specs.Blocks.{block_at, block_count, check_wrong}
-use Prim.Native.Nat.{ℕ, ◌*◌, ◌-◌, ◌≤◌}
+use mathlib.Core.Path.{◌≡◌}
+use Rattle.rules.specs.Blocks.{block_at, check_wrong}
+use Prim.Native.Nat.{ℕ, ◌-◌, ◌≤◌}
 use mathlib.Core.List.{List}
 use mathlib.Core.Bool.{Bool}
 use Rattle.rules.specs.Numbers.{lowest}
-use Rattle.rules.proofs.Numbers.{lowest_more, lowest_here, lowest_zero}
-use native.Mathlib.Omega.{arith}
-use borrow.Author.Rules.{rules}
 use Rattle.image.proofs.frame.first_wrong_check.Given as goal
 
 abbrev pub fault : List ℕ → ℕ → Bool

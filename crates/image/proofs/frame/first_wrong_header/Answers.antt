@@ -1,14 +1,10 @@
 use mathlib.Core.Path.{◌≡◌, sym, ap, ◌∙◌}
 use Rattle.image.proofs.Parts.{part_size}
-use Prim.Native.Nat.{ℕ, ◌*◌, ◌-◌, ◌≤◌}
-use mathlib.Core.List.{List}
-use mathlib.Core.Bool.{Bool}
+use Prim.Native.Nat.{◌*◌}
 use Rattle.rules.specs.Numbers.{lowest}
 use Rattle.rules.proofs.Numbers.{lowest_more, lowest_here, lowest_zero}
-use Rattle.rules.specs.Blocks.{block_at, block_count, header_wrong}
-use Rattle.rules.specs.declared.Form.{Form}
+use Rattle.rules.specs.Blocks.{block_count, header_wrong}
 use native.Mathlib.Omega.{arith}
-use borrow.Author.Rules.{rules}
 use Rattle.image.proofs.frame.first_wrong_header.Invariants.{fault}
 use Rattle.image.proofs.frame.first_wrong_header.Goals as goal
 

@@ -1,15 +1,11 @@
 -- The loop keeps that no block passed has a wrong header; the part handed over is the block.
-use mathlib.Core.Path.{◌≡◌, sym, ap, ◌∙◌}
-use Rattle.image.proofs.Parts.{part_size}
-use Prim.Native.Nat.{ℕ, ◌*◌, ◌-◌, ◌≤◌}
+use mathlib.Core.Path.{◌≡◌}
+use Prim.Native.Nat.{ℕ, ◌-◌, ◌≤◌}
 use mathlib.Core.List.{List}
 use mathlib.Core.Bool.{Bool}
 use Rattle.rules.specs.Numbers.{lowest}
-use Rattle.rules.proofs.Numbers.{lowest_more, lowest_here, lowest_zero}
 use Rattle.rules.specs.Blocks.{block_at, block_count, header_wrong}
 use Rattle.rules.specs.declared.Form.{Form}
-use native.Mathlib.Omega.{arith}
-use borrow.Author.Rules.{rules}
 use Rattle.image.proofs.frame.first_wrong_header.Given as goal
 
 abbrev pub fault : Form → List ℕ → ℕ → Bool

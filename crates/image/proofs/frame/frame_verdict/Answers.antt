@@ -8,7 +8,6 @@ use Rattle.rules.proofs.Numbers.{lowest_le}
 use Rattle.rules.proofs.Blocks.{length_right}
 use Rattle.rules.proofs.Refusals.{or_else-refusal, numbered-some, refuse_at_found, refuse_at-none}
 use native.Mathlib.Omega.{arith}
-use borrow.Author.Rules.{rules}
 use Rattle.image.proofs.frame.frame_verdict.Goals as goal
 
 pub returns-then-is_length_wrong : goal.returns-then-is_length_wrong

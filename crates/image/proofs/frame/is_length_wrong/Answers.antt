@@ -1,6 +1,5 @@
 -- Each test in turn is that of the definition.
 use borrow.Author.Tests.{eq-eqb, ne_eqb}
-use borrow.Author.Rules.{rules}
 use Rattle.image.proofs.frame.is_length_wrong.Goals as goal
 
 pub returns-then-length-eq0 : goal.returns-then-length-eq0

@@ -1,5 +1,4 @@
 -- The number is that of the form which the arm found.
-use borrow.Author.Rules.{rules}
 use Rattle.image.proofs.frame.refusal.Goals as goal
 
 pub returns-in-Table : goal.returns-in-Table

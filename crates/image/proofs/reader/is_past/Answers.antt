@@ -1,7 +1,6 @@
 -- The number of records is what the count says.
 use mathlib.Core.Path.{ap}
 use lib.Dec.{leb}
-use borrow.Author.Rules.{rules}
 use Rattle.image.proofs.reader.is_past.Goals as goal
 
 pub returns : goal.returns

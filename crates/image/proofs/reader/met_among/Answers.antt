@@ -23,7 +23,7 @@ loop-here-preserved c =
     let left : leb (record_count image) c.loop-here.here.next ≡ false = rw (← so_far.image_kept) (sym c.is_done.ensures ∙ c.loop-here-test.true) in
     let inside : c.loop-here.here.next < record_count image = leb-false _ _ left in
     let answered : past (records c.loop-here.sought.image.now) c.next_record.result.now c.loop-here.sought.next ≡ past (records other) (record_at image c.loop-here.here.next) (met_among (records image) (records other) c.loop-here.here.next) =
-        rw (so_far.other_kept, c.next_record.ensures, so_far.image_kept, so_far.met_so_far) refl in
+    rw (so_far.other_kept, c.next_record.ensures, so_far.image_kept, so_far.met_so_far) refl in
     record {
       image_kept = ap (λ (r : Bor (List ℕ)). r.now) c.after-here.ensures.0 ∙ so_far.image_kept;
       other_kept = ap (λ (r : Bor (List ℕ)). r.now) c.past_record-sought.ensures.0 ∙ so_far.other_kept;

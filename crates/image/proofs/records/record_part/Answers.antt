@@ -5,7 +5,6 @@ use Rattle.image.proofs.Parts.{part_past, part_clipped}
 use Prim.Native.Nat.{◌-◌}
 use Rattle.rules.specs.Blocks.{record_start}
 use native.Mathlib.Omega.{arith}
-use borrow.Author.Rules.{rules}
 use Rattle.image.proofs.records.record_part.Goals as goal
 
 pub returns-then-length-k : goal.returns-then-length-k

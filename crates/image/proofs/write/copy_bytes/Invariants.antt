@@ -1,12 +1,8 @@
 -- Before each turn the first k bytes are those of the other part, and the rest is as it was.
 use Prim.Native.Nat.{◌-◌, ◌≤◌}
 use mathlib.Core.List.{◌++◌}
-use mathlib.Core.Path.{◌≡◌, refl, ◌∙◌}
-use lib.ListN.{length, take, drop, length-set}
-use lib.Seq.{take-length}
-use Rattle.image.proofs.Writes.{copied_more}
-use native.Mathlib.Omega.{arith}
-use borrow.Author.Rules.{rules}
+use mathlib.Core.Path.{◌≡◌}
+use lib.ListN.{length, take, drop}
 use Rattle.image.proofs.write.copy_bytes.Given as goal
 
 abbrev pub invariant-loop-k : goal.invariant-loop-k

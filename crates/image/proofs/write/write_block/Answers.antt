@@ -4,7 +4,6 @@ use lib.ListN.{length, drop}
 use lib.Seq.{take_at}
 use Rattle.image.specs.Write.{body_bytes}
 use Rattle.image.proofs.Writes.{length_body}
-use borrow.Author.Rules.{rules}
 use Rattle.image.proofs.write.write_block.Goals as goal
 
 pub returns : goal.returns

@@ -1,4 +1,4 @@
-use Prim.Native.Nat.{ℕ, ◌+◌, ◌*◌, ◌-◌, ◌/◌, ◌≤◌, ◌<◌, min}
+use Prim.Native.Nat.{ℕ, ◌+◌, ◌*◌, ◌/◌, ◌<◌, min}
 use mathlib.Core.List.{List}
 use mathlib.Core.Path.{◌≡◌, refl, ◌∙◌}
 use lib.ListN.{length, take, drop}
@@ -8,7 +8,6 @@ use Rattle.rules.specs.Calls.{over, cut, blocks_of}
 use Rattle.rules.proofs.Numbers.{length-up_to}
 use Rattle.image.proofs.Writes.{block_cut, blocks_more}
 use native.Mathlib.Omega.{arith}
-use borrow.Author.Rules.{rules}
 use Rattle.image.proofs.write.write_blocks.Goals as goal
 
 none : (block : ℕ → List ℕ) (room : List ℕ) → room ≡ over (joined (up_to block 0)) room

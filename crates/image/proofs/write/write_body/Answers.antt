@@ -1,7 +1,6 @@
 -- Header, records and zeros are written one after another, each where the one before it ends.
 use Rattle.image.proofs.Writes.{body_written}
 use native.Mathlib.Omega.{arith}
-use borrow.Author.Rules.{rules}
 use Rattle.image.proofs.write.write_body.Goals as goal
 
 pub returns : goal.returns

@@ -1,6 +1,5 @@
 -- The two bytes are the low and the high byte of the check, and nothing follows them.
 use Rattle.image.proofs.Writes.{check_written}
-use borrow.Author.Rules.{rules}
 use Rattle.image.proofs.write.write_check.Goals as goal
 
 pub returns : goal.returns

@@ -2,7 +2,6 @@
 use lib.ListN.{length-set}
 use Rattle.image.proofs.Writes.{header_stored}
 use native.Mathlib.Omega.{arith}
-use borrow.Author.Rules.{rules}
 use Rattle.image.proofs.write.write_header.Goals as goal
 
 pub bounds-block-3 : goal.bounds-block-3

@@ -1,5 +1,4 @@
 -- The letters that are copied are the mark of the form which the arm found.
-use borrow.Author.Rules.{rules}
 use Rattle.image.proofs.write.write_mark.Goals as goal
 
 pub returns-in-Table : goal.returns-in-Table

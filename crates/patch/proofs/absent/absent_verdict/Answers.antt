@@ -8,7 +8,6 @@ use Rattle.rules.specs.Records.{way_of}
 use Rattle.rules.proofs.Image.Frame.{frame_accepted}
 use Rattle.table.proofs.Counts.{records_few, patch_held}
 use Rattle.patch.proofs.Lacking.{absent_refused, absent_none}
-use borrow.Author.Rules.{rules}
 use Rattle.patch.proofs.absent.absent_verdict.Goals as goal
 
 pub record_at-requires : goal.record_at-requires

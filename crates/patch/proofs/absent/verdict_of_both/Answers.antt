@@ -3,7 +3,6 @@ use mathlib.Core.Path.{◌≡◌}
 use mathlib.Core.Bool.{true, false}
 use Rattle.rules.specs.Refusals.{accepted, table_verdict, patch_verdict}
 use Rattle.rules.proofs.Refusals.{zero_accepted, other_refused}
-use borrow.Author.Rules.{rules}
 use Rattle.patch.proofs.absent.verdict_of_both.Goals as goal
 
 pub returns-then-table-ne0 : goal.returns-then-table-ne0

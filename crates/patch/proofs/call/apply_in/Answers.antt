@@ -20,7 +20,6 @@ use Rattle.table.proofs.Judging.{judged_accepted, judged_before}
 use Rattle.patch.specs.Written.{ImageWritten}
 use Rattle.patch.proofs.Accepted.{table_long}
 use Rattle.patch.proofs.Calling.{both_verdict, is_short, both_table, both_patch, both_present, call_refused, call_broken, call_short, call_fine, patch_refused, patch_accepted_lem, refused_broken, accepted_whole, accepted_image, accepted-records, accepted-length}
-use borrow.Author.Rules.{rules}
 use Rattle.patch.proofs.call.apply_in.Goals as goal
 
 pub returns-then-verdict-ne0 : goal.returns-then-verdict-ne0

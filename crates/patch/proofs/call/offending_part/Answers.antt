@@ -6,7 +6,6 @@ use lib.Dec.{eqb}
 use Rattle.rules.specs.declared.Verdict.{Verdict}
 use Rattle.rules.specs.Blocks.{record_at}
 use Rattle.patch.proofs.Calling.{both_verdict, offending_number}
-use borrow.Author.Rules.{rules}
 use Rattle.patch.proofs.call.offending_part.Goals as goal
 
 pub returns-then-verdict-eq9 : goal.returns-then-verdict-eq9

@@ -1,7 +1,6 @@
 -- A row beyond the end is read as 0.
 use mathlib.Core.Path.{◌≡◌, sym}
 use lib.ListN.{get_or, get_or-eq_default}
-use borrow.Author.Rules.{rules}
 use Rattle.patch.proofs.carried.base_row.Goals as goal
 
 pub returns-then-rows-i : goal.returns-then-rows-i

@@ -1,8 +1,5 @@
-use Prim.Native.Nat.{◌-◌}
 use native.Mathlib.Omega.{arith}
-use borrow.Author.Rules.{rules}
-use Rattle.sets.proofs.Choosing.{Chosen, chosen_none, chosen_more, chosen_all}
-use Rattle.patch.specs.Carried.{cell_carried}
+use Rattle.sets.proofs.Choosing.{chosen_none, chosen_more, chosen_all}
 use Rattle.patch.proofs.carried.carried_row.Goals as goal
 
 pub loop-j-init : goal.loop-j-init

@@ -1,8 +1,6 @@
 -- The loop's invariant: of the cells passed the row has those that are set.
 use Prim.Native.Nat.{◌-◌}
-use native.Mathlib.Omega.{arith}
-use borrow.Author.Rules.{rules}
-use Rattle.sets.proofs.Choosing.{Chosen, chosen_none, chosen_more, chosen_all}
+use Rattle.sets.proofs.Choosing.{Chosen}
 use Rattle.patch.specs.Carried.{cell_carried}
 use Rattle.patch.proofs.carried.carried_row.Given as goal
 

@@ -1,8 +1,5 @@
-use Prim.Native.Nat.{◌-◌}
 use native.Mathlib.Omega.{arith}
-use borrow.Author.Rules.{rules}
-use Rattle.sets.proofs.Maps.{Filled, filled_none, filled_more, filled_all}
-use Rattle.patch.specs.Carried.{carried_by}
+use Rattle.sets.proofs.Maps.{filled_none, filled_more, filled_all}
 use Rattle.patch.proofs.carried.carried_rows.Goals as goal
 
 pub loop-i-init : goal.loop-i-init

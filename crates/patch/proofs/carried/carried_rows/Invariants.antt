@@ -1,8 +1,6 @@
 -- The loop fills the map row by row.
 use Prim.Native.Nat.{◌-◌}
-use native.Mathlib.Omega.{arith}
-use borrow.Author.Rules.{rules}
-use Rattle.sets.proofs.Maps.{Filled, filled_none, filled_more, filled_all}
+use Rattle.sets.proofs.Maps.{Filled}
 use Rattle.patch.specs.Carried.{carried_by}
 use Rattle.patch.proofs.carried.carried_rows.Given as goal
 

@@ -23,7 +23,6 @@ use Rattle.sets.proofs.Columns.{column_long}
 use Rattle.preempt.proofs.Reading.{few_read, ids_directory}
 use Rattle.patch.specs.Touched.{Marks, touched_at}
 use Rattle.patch.proofs.Carrying.{carried_read, touched_counted}
-use borrow.Author.Rules.{rules}
 use Rattle.patch.proofs.carried.carry_map.Goals as goal
 
 pub both_ways-requires : goal.both_ways-requires

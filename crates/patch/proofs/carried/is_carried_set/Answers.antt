@@ -1,7 +1,6 @@
 -- A cell with a touched task is decided, and any other is looked up.
 use mathlib.Core.Path.{sym, ◌∙◌}
 use Rattle.patch.specs.Carried.{cell_carried}
-use borrow.Author.Rules.{rules}
 use Rattle.patch.proofs.carried.is_carried_set.Goals as goal
 
 pub returns-then-is_set : goal.returns-then-is_set

@@ -4,7 +4,6 @@ use mathlib.Core.Path.{sym}
 use native.Mathlib.Omega.{arith}
 use lib.Pow.{pow_mono}
 use Rattle.rules.proofs.Bits.{bit_lacks}
-use borrow.Author.Rules.{rules}
 use Rattle.patch.proofs.carried.is_cell_set.Goals as goal
 
 pub returns-then-j-ge64 : goal.returns-then-j-ge64

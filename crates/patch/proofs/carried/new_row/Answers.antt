@@ -5,7 +5,6 @@ use mathlib.Core.List.{List}
 use mathlib.Core.Bool.{true, false}
 use mathlib.Core.Path.{◌≡◌, sym, ◌∙◌}
 use lib.ListN.{get_or}
-use borrow.Author.Rules.{rules}
 use Rattle.rules.specs.Preempt.{row_from, bit_at}
 use Rattle.preempt.specs.Tasks.{decided_on}
 use Rattle.patch.specs.Carried.{cell_carried, cell_new}

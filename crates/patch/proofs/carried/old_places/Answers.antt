@@ -1,9 +1,8 @@
-use Prim.Native.Nat.{ℕ, ◌-◌, ◌≤◌}
+use Prim.Native.Nat.{ℕ}
 use mathlib.Core.Path.{◌≡◌, ap, ◌∙◌}
 use mathlib.Core.List.{List}
 use mathlib.Core.Bool.{true}
 use native.Mathlib.Omega.{arith}
-use borrow.Author.Rules.{rules}
 use lib.Dec.{eqb}
 use lib.ListN.{length, get_or}
 use Rattle.table.proofs.Counts.{records-accepted, table_held, count_asked}
@@ -11,7 +10,7 @@ use Rattle.rules.proofs.Table.Kinds.{length_split}
 use Rattle.preempt.proofs.Accepted.{shape}
 use Rattle.rules.specs.Numbers.{Bytes}
 use Rattle.rules.specs.Blocks.{records}
-use Rattle.rules.specs.Records.{transactions, tasks, task_count, place_of}
+use Rattle.rules.specs.Records.{transactions, tasks, task_count}
 use Rattle.rules.specs.Refusals.{accepted, table_verdict}
 use Rattle.rules.proofs.Numbers.{lowest_le}
 use Rattle.rules.proofs.Patch.Valid.{valid_of, valid_few_tasks}

@@ -1,27 +1,12 @@
 -- The base's ids are listed once, and the loop keeps the places of the ids passed.
 -- where the base has the task with id i of these
 use Prim.Native.Nat.{ℕ, ◌-◌, ◌≤◌}
-use mathlib.Core.Path.{◌≡◌, ap, ◌∙◌}
+use mathlib.Core.Path.{◌≡◌}
 use mathlib.Core.List.{List}
-use mathlib.Core.Bool.{true}
-use native.Mathlib.Omega.{arith}
-use borrow.Author.Rules.{rules}
-use lib.Dec.{eqb}
-use lib.ListN.{length, get_or}
-use Rattle.table.proofs.Counts.{records-accepted, table_held, count_asked}
-use Rattle.rules.proofs.Table.Kinds.{length_split}
-use Rattle.preempt.proofs.Accepted.{shape}
-use Rattle.rules.specs.Numbers.{Bytes}
+use lib.ListN.{get_or}
 use Rattle.rules.specs.Blocks.{records}
-use Rattle.rules.specs.Records.{transactions, tasks, task_count, place_of}
-use Rattle.rules.specs.Refusals.{accepted, table_verdict}
-use Rattle.rules.proofs.Numbers.{lowest_le}
-use Rattle.rules.proofs.Patch.Valid.{valid_of, valid_few_tasks}
-use Rattle.table.specs.Numbers.{Directory, NumbersRead}
-use Rattle.table.proofs.Places.{tasks_directory, place_in}
+use Rattle.rules.specs.Records.{tasks, place_of}
 use Rattle.sets.specs.Bits.{column}
-use Rattle.sets.proofs.Columns.{column-none, column_filled}
-use Rattle.patch.proofs.Accepted.{as_many}
 use Rattle.patch.proofs.carried.old_places.Given as goal
 
 abbrev pub place_at : List ℕ → List ℕ → ℕ → ℕ

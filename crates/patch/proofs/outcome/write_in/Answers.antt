@@ -9,7 +9,6 @@ use Rattle.rules.specs.Patches.{outcome}
 use Rattle.rules.proofs.Patch.Outcome.{outcome_sized}
 use Rattle.rules.specs.Calls.{written_length, written_room}
 use Rattle.patch.proofs.Writing.{image_written}
-use borrow.Author.Rules.{rules}
 use Rattle.patch.proofs.outcome.write_in.Goals as goal
 
 pub slice_bounds-write_image-end-2 : goal.slice_bounds-write_image-end-2

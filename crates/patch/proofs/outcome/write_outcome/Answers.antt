@@ -1,6 +1,5 @@
 -- The space is as long as what is asked of it.
 use native.Mathlib.Omega.{arith}
-use borrow.Author.Rules.{rules}
 use Rattle.patch.proofs.outcome.write_outcome.Goals as goal
 
 pub write_in-requires : goal.write_in-requires

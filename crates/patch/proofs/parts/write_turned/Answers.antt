@@ -3,7 +3,6 @@ use mathlib.Core.Path.{ap, ◌∙◌}
 use mathlib.Core.List.{List}
 use Prim.Native.Nat.{ℕ, ◌+◌}
 use lib.ListN.{set}
-use borrow.Author.Rules.{rules}
 use Rattle.patch.proofs.Flat.{way_written}
 use Rattle.patch.proofs.parts.write_turned.Goals as goal
 

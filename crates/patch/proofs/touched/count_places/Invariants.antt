@@ -1,13 +1,8 @@
 -- The loop keeps how many of the places passed are in the set.
 use Prim.Native.Nat.{◌-◌, ◌≤◌}
-use mathlib.Core.Path.{◌≡◌, ap, sym, ◌∙◌}
-use mathlib.Core.Logic.{⊎_elim}
-use mathlib.Core.Bool.{true, false}
-use native.Mathlib.Omega.{arith}
-use borrow.Author.Rules.{rules}
+use mathlib.Core.Path.{◌≡◌}
 use Rattle.rules.specs.Numbers.{count_to}
 use Rattle.rules.specs.Preempt.{bit_at}
-use Rattle.rules.proofs.Numbers.{sum_to_zero, count_to_passes, count_to_fails, count_to_le}
 use Rattle.patch.proofs.touched.count_places.Given as goal
 
 abbrev pub invariant-loop-i : goal.invariant-loop-i

@@ -3,7 +3,6 @@
 use Prim.Native.Nat.{◌<◌}
 use mathlib.Core.Path.{sym, ◌∙◌}
 use native.Mathlib.Omega.{arith}
-use borrow.Author.Rules.{rules}
 use Rattle.patch.proofs.Touching.{place_inside, marks_place, marks_absent}
 use Rattle.patch.proofs.touched.task_with.Goals as goal
 

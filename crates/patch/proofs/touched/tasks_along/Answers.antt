@@ -1,7 +1,6 @@
 -- Only a precedence pair has paths, and its two tasks are asked one after the other.
 use mathlib.Core.Path.{◌≡◌, ◌∙◌}
 use borrow.Author.Tests.{eq-eqb, ne_eqb}
-use borrow.Author.Rules.{rules}
 use Rattle.rules.specs.Records.{number_of, second_of}
 use Rattle.patch.specs.Touched.{beside_in, along_in}
 use Rattle.patch.proofs.Touching.{marks_none, marks_either}

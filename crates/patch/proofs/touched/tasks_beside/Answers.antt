@@ -3,7 +3,6 @@
 use Prim.Native.Nat.{◌<◌}
 use mathlib.Core.Path.{sym, ◌∙◌}
 use native.Mathlib.Omega.{arith}
-use borrow.Author.Rules.{rules}
 use Rattle.patch.proofs.Touching.{place_inside, marks_beside, marks_beside-none}
 use Rattle.patch.proofs.touched.tasks_beside.Goals as goal
 

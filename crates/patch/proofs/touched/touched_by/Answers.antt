@@ -1,5 +1,4 @@
 -- The tasks that the record concerns, and those along its paths.
-use borrow.Author.Rules.{rules}
 use lib.ListN.{get_or}
 use Rattle.rules.specs.Patches.{concerns}
 use Rattle.patch.specs.Touched.{along_in}

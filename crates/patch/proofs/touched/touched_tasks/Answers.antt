@@ -1,14 +1,11 @@
-use Prim.Native.Nat.{ℕ, ◌-◌, ◌≤◌}
 use mathlib.Core.Path.{◌≡◌, sym, ap, ◌∙◌}
-use mathlib.Core.List.{List, []}
-use mathlib.Core.Bool.{Bool}
+use mathlib.Core.List.{[]}
 use native.Mathlib.Omega.{arith}
-use borrow.Author.Rules.{rules}
 use lib.ListN.{length, get_or}
 use Rattle.rules.specs.Numbers.{some}
 use Rattle.rules.specs.Blocks.{records, record_at, record_count}
 use Rattle.rules.proofs.Numbers.{length-up_to, get_or-up_to}
-use Rattle.patch.specs.Touched.{Marks, touched_in}
+use Rattle.patch.specs.Touched.{Marks}
 use Rattle.patch.proofs.Touching.{marks_start, marks_more}
 use Rattle.patch.proofs.touched.touched_tasks.Invariants.{is_touched}
 use Rattle.patch.proofs.touched.touched_tasks.Goals as goal

@@ -1,17 +1,12 @@
 -- The loop keeps the set of the tasks that one of the records passed touches.
 -- whether record j touches the task at place i
 use Prim.Native.Nat.{ℕ, ◌-◌, ◌≤◌}
-use mathlib.Core.Path.{◌≡◌, sym, ap, ◌∙◌}
 use mathlib.Core.List.{List, []}
 use mathlib.Core.Bool.{Bool}
-use native.Mathlib.Omega.{arith}
-use borrow.Author.Rules.{rules}
-use lib.ListN.{length, get_or}
+use lib.ListN.{get_or}
 use Rattle.rules.specs.Numbers.{some}
-use Rattle.rules.specs.Blocks.{records, record_at, record_count}
-use Rattle.rules.proofs.Numbers.{length-up_to, get_or-up_to}
+use Rattle.rules.specs.Blocks.{records}
 use Rattle.patch.specs.Touched.{Marks, touched_in}
-use Rattle.patch.proofs.Touching.{marks_start, marks_more}
 use Rattle.patch.proofs.touched.touched_tasks.Given as goal
 
 abbrev pub is_touched : List (List ℕ) → List ℕ → List ℕ → ℕ → List ℕ → ℕ → ℕ → Bool

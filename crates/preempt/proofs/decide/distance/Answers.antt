@@ -2,8 +2,6 @@
 -- in either case the larger offset is below the period
 use Prim.Native.Nat.{◌<◌}
 use native.Mathlib.Omega.{arith}
-use borrow.Author.Tests.{ltb-true}
-use borrow.Author.Rules.{rules}
 use Rattle.rules.proofs.Distance.{distance_above, distance_below}
 use Rattle.preempt.proofs.decide.distance.Goals as goal
 

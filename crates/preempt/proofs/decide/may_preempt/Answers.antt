@@ -1,6 +1,5 @@
 -- The reason, and what it says of the cell.
 use mathlib.Core.Path.{ap, ◌∙◌}
-use borrow.Author.Rules.{rules}
 use Rattle.rules.specs.declared.Reason.{Reason}
 use Rattle.rules.specs.Reasons.{told}
 use Rattle.rules.specs.Preempt.{may_preempt}

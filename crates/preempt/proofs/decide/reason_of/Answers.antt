@@ -1,7 +1,6 @@
 -- The tests of equation (8), one after the other.
 use native.Mathlib.Omega.{arith}
 use borrow.Author.Tests.{lt-ltb, le-ltb}
-use borrow.Author.Rules.{rules}
 use Rattle.rules.specs.Preempt.{reason}
 use Rattle.preempt.proofs.decide.reason_of.Goals as goal
 

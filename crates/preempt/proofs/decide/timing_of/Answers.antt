@@ -1,6 +1,5 @@
 -- The tests of the timing, one after the other, on what distance and excess answer.
 use borrow.Author.Tests.{eq-eqb, ne_eqb, lt-ltb, le-ltb}
-use borrow.Author.Rules.{rules}
 use Rattle.preempt.proofs.decide.timing_of.Goals as goal
 
 pub returns-then-low-high : goal.returns-then-low-high

@@ -1,8 +1,5 @@
-use Prim.Native.Nat.{◌-◌}
 use native.Mathlib.Omega.{arith}
-use borrow.Author.Rules.{rules}
-use Rattle.sets.proofs.Choosing.{Chosen, chosen_none, chosen_more, chosen_all}
-use Rattle.preempt.specs.Tasks.{decided_on}
+use Rattle.sets.proofs.Choosing.{chosen_none, chosen_more, chosen_all}
 use Rattle.preempt.proofs.map.decided_row.Goals as goal
 
 pub loop-j-init : goal.loop-j-init

@@ -1,8 +1,6 @@
 -- The loop's invariant: of the places passed the row has those whose tasks may preempt the row's own.
 use Prim.Native.Nat.{◌-◌}
-use native.Mathlib.Omega.{arith}
-use borrow.Author.Rules.{rules}
-use Rattle.sets.proofs.Choosing.{Chosen, chosen_none, chosen_more, chosen_all}
+use Rattle.sets.proofs.Choosing.{Chosen}
 use Rattle.preempt.specs.Tasks.{decided_on}
 use Rattle.preempt.proofs.map.decided_row.Given as goal
 

@@ -1,8 +1,5 @@
-use Prim.Native.Nat.{◌-◌}
 use native.Mathlib.Omega.{arith}
-use borrow.Author.Rules.{rules}
-use Rattle.sets.proofs.Maps.{Filled, filled_none, filled_more, filled_all}
-use Rattle.preempt.specs.Tasks.{decided_by}
+use Rattle.sets.proofs.Maps.{filled_none, filled_more, filled_all}
 use Rattle.preempt.proofs.map.map_of.Goals as goal
 
 pub loop-i-init : goal.loop-i-init

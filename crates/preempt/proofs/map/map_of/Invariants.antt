@@ -1,8 +1,6 @@
 -- The loop fills the map row by row.
 use Prim.Native.Nat.{◌-◌}
-use native.Mathlib.Omega.{arith}
-use borrow.Author.Rules.{rules}
-use Rattle.sets.proofs.Maps.{Filled, filled_none, filled_more, filled_all}
+use Rattle.sets.proofs.Maps.{Filled}
 use Rattle.preempt.specs.Tasks.{decided_by}
 use Rattle.preempt.proofs.map.map_of.Given as goal
 

@@ -1,5 +1,4 @@
 -- What is read of the two places is what the decision asks.
-use borrow.Author.Rules.{rules}
 use Rattle.preempt.specs.Tasks.{decided_on}
 use Rattle.preempt.proofs.map.may_preempt_at.Goals as goal
 

@@ -1,7 +1,6 @@
 -- The decision from what was read is the decision of the table.
 use Prim.Native.Nat.{◌≤◌}
 use mathlib.Core.Path.{◌∙◌}
-use borrow.Author.Rules.{rules}
 use Rattle.rules.specs.Blocks.{records}
 use Rattle.rules.proofs.Table.Shape.{Shape}
 use Rattle.table.proofs.Closed.{before_is_map, beside_turned}

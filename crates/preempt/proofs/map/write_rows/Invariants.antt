@@ -1,12 +1,8 @@
 -- The loop keeps that the rows passed are written and the others are as they were.
 use Prim.Native.Nat.{◌-◌, ◌≤◌}
 use mathlib.Core.List.{◌++◌}
-use mathlib.Core.Path.{◌≡◌, refl, ◌∙◌}
-use native.Mathlib.Omega.{arith}
-use borrow.Author.Rules.{rules}
-use lib.Seq.{take_all}
-use lib.ListN.{length, take, drop, length-set}
-use Rattle.image.proofs.Writes.{copied_more}
+use mathlib.Core.Path.{◌≡◌}
+use lib.ListN.{length, take, drop}
 use Rattle.preempt.proofs.map.write_rows.Given as goal
 
 abbrev pub invariant-loop-i : goal.invariant-loop-i

@@ -1,6 +1,5 @@
 -- The record names the transaction.
 use mathlib.Core.Path.{ap, ◌∙◌}
-use borrow.Author.Rules.{rules}
 use Rattle.rules.specs.Blocks.{records}
 use Rattle.rules.specs.Records.{second_of, period_in}
 use Rattle.preempt.proofs.tasks.period_at.Goals as goal

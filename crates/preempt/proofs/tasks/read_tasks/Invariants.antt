@@ -1,16 +1,7 @@
 -- The loop keeps what is read of the tasks passed; the tasks stand behind the transactions.
-use Prim.Native.Nat.{ℕ, ◌-◌, ◌≤◌}
-use mathlib.Core.List.{[]}
-use mathlib.Core.Path.{◌≡◌, ap, subst, ◌∙◌}
-use native.Mathlib.Omega.{arith}
-use borrow.Author.Rules.{rules}
-use lib.ListN.{get_or}
-use Rattle.table.proofs.Counts.{count_asked}
-use Rattle.rules.specs.Records.{tasks, task_count, task_of}
+use Prim.Native.Nat.{◌-◌, ◌≤◌}
 use Rattle.rules.specs.Blocks.{records}
 use Rattle.preempt.specs.Tasks.{ColumnsTo}
-use Rattle.preempt.proofs.Accepted.{shape}
-use Rattle.preempt.proofs.Filling.{columns_none, columns_more}
 use Rattle.preempt.proofs.tasks.read_tasks.Given as goal
 
 abbrev pub invariant-loop-i : goal.invariant-loop-i

@@ -1,6 +1,5 @@
 -- The task is what its record says.
 use mathlib.Core.Path.{ap, ◌∙◌}
-use borrow.Author.Rules.{rules}
 use Rattle.rules.specs.Records.{task_of}
 use Rattle.preempt.proofs.tasks.task_at.Goals as goal
 

@@ -1,6 +1,5 @@
 -- Each field is what the reading of its bytes answers.
 use mathlib.Core.Path.{ap, ◌∙◌}
-use borrow.Author.Rules.{rules}
 use Rattle.rules.specs.Records.{jitter_of, threshold_of}
 use Rattle.preempt.proofs.tasks.task_of.Goals as goal
 

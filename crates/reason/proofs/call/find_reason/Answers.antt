@@ -1,11 +1,8 @@
 -- The checks in their order: the table, then the two ids.
 -- the table was accepted, and it is known which of its tasks come before which
 use mathlib.Core.Bool.{true}
-use mathlib.Core.Logic.{⊎_elim}
 use mathlib.Core.Path.{◌≡◌, refl, ap, sym, ◌∙◌}
 use native.Mathlib.Omega.{arith}
-use borrow.Author.Tests.{eqb-true, eqb-false}
-use borrow.Author.Rules.{rules}
 use Rattle.rules.specs.declared.Reason.{Reason}
 use Rattle.rules.specs.Reasons.{told}
 use Rattle.rules.specs.Refusals.{accepted, table_verdict}

@@ -1,6 +1,5 @@
 -- The sort is asked first, then the two names.
 use borrow.Author.Tests.{eq-eqb, ne_eqb}
-use borrow.Author.Rules.{rules}
 use Rattle.reason.proofs.pairs.forbids.Goals as goal
 
 pub returns-then-byte_at-ne0 : goal.returns-then-byte_at-ne0

@@ -1,15 +1,11 @@
-use Prim.Native.Nat.{ℕ, ◌+◌, ◌-◌, ◌≤◌}
-use mathlib.Core.Bool.{Bool, ◌&&◌}
-use mathlib.Core.List.{List, []}
+use Prim.Native.Nat.{ℕ, ◌+◌}
+use mathlib.Core.List.{List}
 use mathlib.Core.Path.{◌≡◌, ap, sym, ◌∙◌}
 use native.Mathlib.Omega.{arith}
-use borrow.Author.Rules.{rules}
-use lib.Dec.{eqb}
-use lib.ListN.{length, get_or}
-use Rattle.rules.specs.Numbers.{lowest}
+use lib.ListN.{length}
 use Rattle.rules.specs.Blocks.{records, record_at}
-use Rattle.rules.specs.Records.{sort_of, pairs}
-use Rattle.rules.specs.Preempt.{names, paired}
+use Rattle.rules.specs.Records.{pairs}
+use Rattle.rules.specs.Preempt.{paired}
 use Rattle.rules.proofs.Numbers.{lowest_zero, lowest_more, some_true, some_false}
 use Rattle.table.proofs.Counts.{count_asked}
 use Rattle.preempt.proofs.Accepted.{shape, record_whole, pair_record}

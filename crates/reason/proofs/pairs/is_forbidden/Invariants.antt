@@ -1,20 +1,15 @@
 -- The loop keeps that no pair passed forbids it; the pairs stand behind transactions and tasks.
 -- whether a pair is one-way and names the two
-use Prim.Native.Nat.{ℕ, ◌+◌, ◌-◌, ◌≤◌}
+use Prim.Native.Nat.{ℕ, ◌-◌, ◌≤◌}
 use mathlib.Core.Bool.{Bool, ◌&&◌}
 use mathlib.Core.List.{List, []}
-use mathlib.Core.Path.{◌≡◌, ap, sym, ◌∙◌}
-use native.Mathlib.Omega.{arith}
-use borrow.Author.Rules.{rules}
+use mathlib.Core.Path.{◌≡◌}
 use lib.Dec.{eqb}
-use lib.ListN.{length, get_or}
+use lib.ListN.{get_or}
 use Rattle.rules.specs.Numbers.{lowest}
-use Rattle.rules.specs.Blocks.{records, record_at}
+use Rattle.rules.specs.Blocks.{records}
 use Rattle.rules.specs.Records.{sort_of, pairs}
-use Rattle.rules.specs.Preempt.{names, paired}
-use Rattle.rules.proofs.Numbers.{lowest_zero, lowest_more, some_true, some_false}
-use Rattle.table.proofs.Counts.{count_asked}
-use Rattle.preempt.proofs.Accepted.{shape, record_whole, pair_record}
+use Rattle.rules.specs.Preempt.{names}
 use Rattle.reason.proofs.pairs.is_forbidden.Given as goal
 
 abbrev pub says : List ℕ → ℕ → ℕ → Bool

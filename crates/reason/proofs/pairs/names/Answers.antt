@@ -1,6 +1,5 @@
 -- The two tests, one after the other.
 use borrow.Author.Tests.{eq-eqb, ne_eqb}
-use borrow.Author.Rules.{rules}
 use Rattle.reason.proofs.pairs.names.Goals as goal
 
 pub returns-then-two_bytes-a : goal.returns-then-two_bytes-a

@@ -1,5 +1,4 @@
 -- The word that is put is that of the reason which the arm found.
-use borrow.Author.Rules.{rules}
 use Rattle.reason.proofs.told.write_word.Goals as goal
 
 pub returns-in-Transaction : goal.returns-in-Transaction

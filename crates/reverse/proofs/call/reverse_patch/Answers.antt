@@ -3,7 +3,6 @@
 use mathlib.Core.Bool.{true}
 use mathlib.Core.Path.{◌≡◌, ap, ◌∙◌}
 use native.Mathlib.Omega.{arith}
-use borrow.Author.Rules.{rules}
 use Rattle.rules.specs.Refusals.{accepted, patch_verdict}
 use Rattle.rules.specs.Calls.{reverse_refusal}
 use Rattle.rules.proofs.Refusals.{zero_accepted, other_refused}

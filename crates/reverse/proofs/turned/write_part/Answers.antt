@@ -1,14 +1,13 @@
-use Prim.Native.Nat.{ℕ, ◌-◌}
+use Prim.Native.Nat.{ℕ}
 use mathlib.Core.Path.{◌≡◌, ap, ◌∙◌}
 use mathlib.Core.List.{List, []}
 use native.Mathlib.Omega.{arith}
-use borrow.Author.Rules.{rules}
 use lib.ListN.{length, get_or, set}
 use Rattle.rules.specs.Blocks.{records}
 use Rattle.table.proofs.Counts.{patch_held}
 use Rattle.patch.proofs.Accepted.{read_is}
 use Rattle.patch.proofs.Flat.{with_record}
-use Rattle.reverse.proofs.Growing.{Growing, growing_none, growing_next, growing_fits, growing_more, growing_all}
+use Rattle.reverse.proofs.Growing.{growing_none, growing_next, growing_fits, growing_more, growing_all}
 use Rattle.reverse.proofs.turned.write_part.Goals as goal
 
 pub loop-k-init : goal.loop-k-init

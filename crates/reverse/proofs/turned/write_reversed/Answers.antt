@@ -1,6 +1,5 @@
 -- The part that is put in is written first, to be taken out, and the part that is taken out behind it, to be put in.
 use native.Mathlib.Omega.{arith}
-use borrow.Author.Rules.{rules}
 use lib.ListN.{length-take, length-drop}
 use Rattle.rules.proofs.Patch.Ways.{length-with_way}
 use Rattle.table.proofs.Counts.{patch_held}

@@ -1,6 +1,5 @@
 -- What is written are the records of the reverse, so the image that is made of them is the reverse, as long as the patch.
 use mathlib.Core.Path.{sym, ◌∙◌}
-use borrow.Author.Rules.{rules}
 use lib.Seq.{length-take-le}
 use Rattle.reverse.proofs.Reversing.{reverse_inside, reverse_image}
 use Rattle.reverse.proofs.written.write_in.Goals as goal

@@ -1,5 +1,4 @@
 -- A shift by fewer than 64 bits loses nothing of the number 1.
-use borrow.Author.Rules.{rules}
 use Rattle.rules.proofs.Bits.{power_fits}
 use Rattle.sets.proofs.bits.power.Goals as goal
 

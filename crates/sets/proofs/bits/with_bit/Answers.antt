@@ -1,6 +1,5 @@
 -- What power answers is put in.
 use mathlib.Core.Path.{ap}
-use borrow.Author.Rules.{rules}
 use lib.Bits.{bit_or}
 use Rattle.sets.proofs.bits.with_bit.Goals as goal
 

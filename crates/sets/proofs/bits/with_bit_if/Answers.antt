@@ -1,5 +1,4 @@
 -- Where it is wanted the answer is that of with_bit, and otherwise the number itself.
-use borrow.Author.Rules.{rules}
 use Rattle.sets.proofs.bits.with_bit_if.Goals as goal
 
 pub returns-then-wanted : goal.returns-then-wanted

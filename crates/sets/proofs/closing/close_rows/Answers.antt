@@ -1,7 +1,6 @@
-use Prim.Native.Nat.{ℕ, ◌-◌, ◌≤◌}
+use Prim.Native.Nat.{ℕ}
 use mathlib.Core.Path.{◌≡◌, ap, ◌∙◌}
 use native.Mathlib.Omega.{arith}
-use borrow.Author.Rules.{rules}
 use Rattle.rules.specs.Preempt.{cell, map_from}
 use Rattle.rules.specs.Reach.{reaches}
 use Rattle.sets.proofs.Paths.{closed_more, closed_none, is_map}

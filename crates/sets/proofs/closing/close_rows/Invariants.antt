@@ -1,11 +1,8 @@
 -- The loop keeps the rows of the paths that lead through places below k.
-use Prim.Native.Nat.{ℕ, ◌-◌, ◌≤◌}
-use mathlib.Core.Path.{◌≡◌, ap, ◌∙◌}
-use native.Mathlib.Omega.{arith}
-use borrow.Author.Rules.{rules}
+use Prim.Native.Nat.{◌-◌, ◌≤◌}
+use mathlib.Core.Path.{◌≡◌}
 use Rattle.rules.specs.Preempt.{cell, map_from}
 use Rattle.rules.specs.Reach.{reaches}
-use Rattle.sets.proofs.Paths.{closed_more, closed_none, is_map}
 use Rattle.sets.proofs.closing.close_rows.Given as goal
 
 abbrev pub invariant-loop-k : goal.invariant-loop-k

@@ -1,9 +1,7 @@
-use Prim.Native.Nat.{◌-◌}
 use mathlib.Core.Path.{sym, ◌∙◌}
 use native.Mathlib.Omega.{arith}
-use borrow.Author.Rules.{rules}
 use Rattle.rules.specs.Preempt.{cell}
-use Rattle.sets.proofs.Paths.{Leading, leading_none, leading_more, leading_all, through_none, empty_row}
+use Rattle.sets.proofs.Paths.{leading_none, leading_more, leading_all, through_none, empty_row}
 use Rattle.sets.proofs.closing.lead_over.Goals as goal
 
 pub returns-then-further-eq0 : goal.returns-then-further-eq0

@@ -1,5 +1,4 @@
 -- One way out for each case.
-use borrow.Author.Rules.{rules}
 use Rattle.sets.proofs.closing.union_if.Goals as goal
 
 pub returns-then-wanted : goal.returns-then-wanted

@@ -3,7 +3,6 @@ use lib.Pow.{pow_pos}
 use Rattle.rules.proofs.Bits.{power_fits}
 use Rattle.sets.proofs.Sets.{below_has}
 use native.Mathlib.Omega.{arith}
-use borrow.Author.Rules.{rules}
 use Rattle.sets.proofs.places.all_below.Goals as goal
 
 pub overflow_sub-result : goal.overflow_sub-result

@@ -1,8 +1,5 @@
-use Prim.Native.Nat.{◌-◌}
-use Rattle.sets.specs.Bits.{has_number}
-use Rattle.sets.proofs.Choosing.{Chosen, chosen_none, chosen_more, chosen_all}
+use Rattle.sets.proofs.Choosing.{chosen_none, chosen_more, chosen_all}
 use native.Mathlib.Omega.{arith}
-use borrow.Author.Rules.{rules}
 use Rattle.sets.proofs.places.members.Goals as goal
 
 pub loop-place-init : goal.loop-place-init

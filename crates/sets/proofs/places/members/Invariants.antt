@@ -1,9 +1,7 @@
 -- The loop's invariant: of the places passed the set holds those whose number is this one.
 use Prim.Native.Nat.{◌-◌}
 use Rattle.sets.specs.Bits.{has_number}
-use Rattle.sets.proofs.Choosing.{Chosen, chosen_none, chosen_more, chosen_all}
-use native.Mathlib.Omega.{arith}
-use borrow.Author.Rules.{rules}
+use Rattle.sets.proofs.Choosing.{Chosen}
 use Rattle.sets.proofs.places.members.Given as goal
 
 abbrev pub invariant-loop-place : goal.invariant-loop-place

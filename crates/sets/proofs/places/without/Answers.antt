@@ -3,7 +3,6 @@ use Prim.Native.Nat.{◌/◌, ◌%◌, ◌^◌}
 use borrow.Author.Tests.{eqb-true}
 use Rattle.rules.proofs.Bits.{power_fits, bit_enough}
 use Rattle.sets.proofs.Sets.{without-has}
-use borrow.Author.Rules.{rules}
 use Rattle.sets.proofs.places.without.Goals as goal
 
 pub overflow_sub-result : goal.overflow_sub-result

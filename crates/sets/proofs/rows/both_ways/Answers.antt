@@ -1,7 +1,5 @@
-use Prim.Native.Nat.{◌-◌}
 use native.Mathlib.Omega.{arith}
-use borrow.Author.Rules.{rules}
-use Rattle.sets.proofs.Turning.{Turning, turning_none, turning_more, turning_all}
+use Rattle.sets.proofs.Turning.{turning_none, turning_more, turning_all}
 use Rattle.sets.proofs.rows.both_ways.Goals as goal
 
 pub loop-i-init : goal.loop-i-init

@@ -1,8 +1,6 @@
 -- The loop turns the cells row by row.
 use Prim.Native.Nat.{◌-◌}
-use native.Mathlib.Omega.{arith}
-use borrow.Author.Rules.{rules}
-use Rattle.sets.proofs.Turning.{Turning, turning_none, turning_more, turning_all}
+use Rattle.sets.proofs.Turning.{Turning}
 use Rattle.sets.proofs.rows.both_ways.Given as goal
 
 abbrev pub invariant-loop-i : goal.invariant-loop-i

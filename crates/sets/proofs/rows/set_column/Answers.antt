@@ -1,6 +1,5 @@
 use native.Mathlib.Omega.{arith}
-use borrow.Author.Rules.{rules}
-use Rattle.sets.proofs.Turning.{Adding, adding_none, adding_more, adding_all}
+use Rattle.sets.proofs.Turning.{adding_none, adding_more, adding_all}
 use Rattle.sets.proofs.rows.set_column.Goals as goal
 
 pub loop-rest-init : goal.loop-rest-init

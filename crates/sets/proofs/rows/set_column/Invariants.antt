@@ -1,7 +1,5 @@
 -- The loop's invariant: the place is in the rows of those places that are no longer in the rest.
-use native.Mathlib.Omega.{arith}
-use borrow.Author.Rules.{rules}
-use Rattle.sets.proofs.Turning.{Adding, adding_none, adding_more, adding_all}
+use Rattle.sets.proofs.Turning.{Adding}
 use Rattle.sets.proofs.rows.set_column.Given as goal
 
 abbrev pub invariant-loop-rest : goal.invariant-loop-rest

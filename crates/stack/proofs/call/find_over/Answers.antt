@@ -1,5 +1,4 @@
 -- Each figure is what its function promises.
-use borrow.Author.Rules.{rules}
 use Rattle.stack.proofs.call.find_over.Goals as goal
 
 pub heaviest_chain-best-requires : goal.heaviest_chain-best-requires

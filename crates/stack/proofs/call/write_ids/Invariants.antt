@@ -1,12 +1,9 @@
 -- The loop keeps that the ids of the places passed are written over the start of the room.
-use Prim.Native.Nat.{ℕ, ◌-◌, ◌≤◌}
-use mathlib.Core.List.{List, map}
-use mathlib.Core.Path.{◌≡◌, ap, ◌∙◌}
-use lib.ListN.{length, get_or, set, take, length-set}
+use Prim.Native.Nat.{◌-◌, ◌≤◌}
+use mathlib.Core.List.{map}
+use mathlib.Core.Path.{◌≡◌}
+use lib.ListN.{length, get_or, take}
 use Rattle.rules.specs.Calls.{over}
-use Rattle.stack.proofs.Writing.{mapped_next}
-use native.Mathlib.Omega.{arith}
-use borrow.Author.Rules.{rules}
 use Rattle.stack.proofs.call.write_ids.Given as goal
 
 abbrev pub invariant-loop-k : goal.invariant-loop-k

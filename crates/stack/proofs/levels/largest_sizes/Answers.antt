@@ -1,11 +1,8 @@
-use Prim.Native.Nat.{◌-◌, ◌≤◌, ◌<◌}
+use Prim.Native.Nat.{◌<◌}
 use mathlib.Core.Path.{◌≡◌}
-use mathlib.Core.Logic.{⊎_elim}
 use lib.ListN.{get_or}
-use Rattle.stack.specs.Levels.{LargestSizes}
 use Rattle.stack.proofs.Levelling.{sizes_none, sizes_taken, sizes_kept}
 use native.Mathlib.Omega.{arith}
-use borrow.Author.Rules.{rules}
 use Rattle.stack.proofs.levels.largest_sizes.Goals as goal
 use Rattle.stack.proofs.levels.largest_sizes.Goals.{then-largest-priority, else-largest-priority}
 

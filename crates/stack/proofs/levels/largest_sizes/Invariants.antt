@@ -1,12 +1,6 @@
 -- The loop's invariant: for each priority the largest size of the tasks passed.
-use Prim.Native.Nat.{◌-◌, ◌≤◌, ◌<◌}
-use mathlib.Core.Path.{◌≡◌}
-use mathlib.Core.Logic.{⊎_elim}
-use lib.ListN.{get_or}
+use Prim.Native.Nat.{◌-◌, ◌≤◌}
 use Rattle.stack.specs.Levels.{LargestSizes}
-use Rattle.stack.proofs.Levelling.{sizes_none, sizes_taken, sizes_kept}
-use native.Mathlib.Omega.{arith}
-use borrow.Author.Rules.{rules}
 use Rattle.stack.proofs.levels.largest_sizes.Given as goal
 
 abbrev pub invariant-loop-place : goal.invariant-loop-place

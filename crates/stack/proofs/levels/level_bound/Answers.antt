@@ -1,11 +1,8 @@
-use Prim.Native.Nat.{◌-◌, ◌≤◌}
 use mathlib.Core.Path.{◌≡◌, sym, ◌∙◌}
-use Rattle.rules.specs.Numbers.{sum_to}
 use Rattle.rules.proofs.Numbers.{sum_to_zero, sum_to_step, sum_to_light}
 use Rattle.stack.specs.Levels.{level_in}
 use Rattle.stack.proofs.Levelling.{level_light, levels_all}
 use native.Mathlib.Omega.{arith}
-use borrow.Author.Rules.{rules}
 use Rattle.stack.proofs.levels.level_bound.Goals as goal
 
 pub loop-priority-init : goal.loop-priority-init

@@ -1,12 +1,8 @@
 -- The loop's invariant: the levels of the priorities passed are added up.
 use Prim.Native.Nat.{◌-◌, ◌≤◌}
-use mathlib.Core.Path.{◌≡◌, sym, ◌∙◌}
+use mathlib.Core.Path.{◌≡◌}
 use Rattle.rules.specs.Numbers.{sum_to}
-use Rattle.rules.proofs.Numbers.{sum_to_zero, sum_to_step, sum_to_light}
 use Rattle.stack.specs.Levels.{level_in}
-use Rattle.stack.proofs.Levelling.{level_light, levels_all}
-use native.Mathlib.Omega.{arith}
-use borrow.Author.Rules.{rules}
 use Rattle.stack.proofs.levels.level_bound.Given as goal
 
 abbrev pub invariant-loop-priority : goal.invariant-loop-priority

@@ -1,18 +1,10 @@
 -- The loop keeps the bounds of the transactions passed and their sum, which is never above what all tasks weigh.
 -- the transactions of the table
-use Rattle.table.proofs.Counts.{count_asked}
-use Prim.Native.Nat.{ℕ, ◌+◌, ◌-◌, ◌≤◌, ◌<◌}
-use mathlib.Core.List.{List, []}
-use mathlib.Core.Path.{◌≡◌, ap, subst, ◌∙◌}
-use lib.ListN.{length, get_or}
+use Prim.Native.Nat.{ℕ, ◌-◌, ◌≤◌}
+use mathlib.Core.List.{List}
 use Rattle.rules.specs.Blocks.{records}
-use Rattle.rules.specs.Records.{number_of, transactions as Records·transactions}
-use Rattle.preempt.proofs.Accepted.{shape, record_whole, transaction_record}
+use Rattle.rules.specs.Records.{transactions as Records·transactions}
 use Rattle.stack.specs.Figures.{OwnPaths}
-use Rattle.stack.proofs.Sums.{sums_bound}
-use Rattle.stack.proofs.Owning.{members_inside, members_own, own_none, own_more, own_within}
-use native.Mathlib.Omega.{arith}
-use borrow.Author.Rules.{rules}
 use Rattle.stack.proofs.own.transaction_bound.Given as goal
 
 abbrev pub listed : List ℕ → List (List ℕ)

@@ -1,8 +1,7 @@
-use Rattle.stack.proofs.Sums.{Sought, sought_none, sought_more, sought_all}
+use Rattle.stack.proofs.Sums.{sought_none, sought_more, sought_all}
 use mathlib.Core.Path.{refl}
 use mathlib.Core.Logic.{inr}
 use native.Mathlib.Omega.{arith}
-use borrow.Author.Rules.{rules}
 use Rattle.stack.proofs.path.largest_at.Goals as goal
 
 pub loop-rest-init : goal.loop-rest-init

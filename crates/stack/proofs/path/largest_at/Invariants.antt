@@ -1,9 +1,5 @@
 -- The loop's invariant: the largest is that of the sums at the places already taken out of the rest.
-use Rattle.stack.proofs.Sums.{Sought, sought_none, sought_more, sought_all}
-use mathlib.Core.Path.{refl}
-use mathlib.Core.Logic.{inr}
-use native.Mathlib.Omega.{arith}
-use borrow.Author.Rules.{rules}
+use Rattle.stack.proofs.Sums.{Sought}
 use Rattle.stack.proofs.path.largest_at.Given as goal
 
 abbrev pub invariant-loop-rest : goal.invariant-loop-rest

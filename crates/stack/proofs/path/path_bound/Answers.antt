@@ -4,7 +4,6 @@ use Rattle.ceiling.specs.Near.{size_of}
 use Rattle.sets.proofs.Sets.{below_inside}
 use Rattle.stack.proofs.Sums.{sums_bound}
 use Rattle.stack.proofs.Figures.{largest_all}
-use borrow.Author.Rules.{rules}
 use Rattle.stack.proofs.path.path_bound.Goals as goal
 
 pub path_sums-sums-requires : goal.path_sums-sums-requires

@@ -1,8 +1,7 @@
-use Prim.Native.Nat.{◌-◌, ◌<◌}
+use Prim.Native.Nat.{◌<◌}
 use mathlib.Core.Path.{sym, ◌∙◌}
-use Rattle.stack.proofs.Sums.{Underway, underway_none, underway_left, underway_skip, underway_take, underway_light, underway_all}
+use Rattle.stack.proofs.Sums.{underway_none, underway_left, underway_skip, underway_take, underway_light, underway_all}
 use native.Mathlib.Omega.{arith}
-use borrow.Author.Rules.{rules}
 use Rattle.stack.proofs.path.path_sums.Goals as goal
 
 pub loop-rest-init : goal.loop-rest-init

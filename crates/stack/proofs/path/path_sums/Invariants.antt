@@ -1,9 +1,6 @@
 -- The loop's invariant: the sums of the cover's places outside the rest are settled, and the rest stand later in the order.
-use Prim.Native.Nat.{◌-◌, ◌<◌}
-use mathlib.Core.Path.{sym, ◌∙◌}
-use Rattle.stack.proofs.Sums.{Underway, underway_none, underway_left, underway_skip, underway_take, underway_light, underway_all}
-use native.Mathlib.Omega.{arith}
-use borrow.Author.Rules.{rules}
+use Prim.Native.Nat.{◌-◌}
+use Rattle.stack.proofs.Sums.{Underway}
 use Rattle.stack.proofs.path.path_sums.Given as goal
 
 abbrev pub invariant-loop-rest : goal.invariant-loop-rest

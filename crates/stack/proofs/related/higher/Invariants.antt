@@ -1,9 +1,7 @@
 -- The loop's invariant: of the places passed the set holds those whose priority is above the threshold.
 use Prim.Native.Nat.{◌-◌}
 use Rattle.stack.specs.Related.{is_higher}
-use Rattle.sets.proofs.Choosing.{Chosen, chosen_none, chosen_more, chosen_all}
-use native.Mathlib.Omega.{arith}
-use borrow.Author.Rules.{rules}
+use Rattle.sets.proofs.Choosing.{Chosen}
 use Rattle.stack.proofs.related.higher.Given as goal
 
 abbrev pub invariant-loop-place : goal.invariant-loop-place

@@ -1,9 +1,7 @@
-use Prim.Native.Nat.{◌-◌, ◌≤◌}
 use mathlib.Core.Path.{refl}
 use Rattle.stack.proofs.Sums.{zeros}
-use Rattle.stack.proofs.Relating.{RowsBelow, rows_none, rows_more, rows_all}
+use Rattle.stack.proofs.Relating.{rows_none, rows_more, rows_all}
 use native.Mathlib.Omega.{arith}
-use borrow.Author.Rules.{rules}
 use Rattle.stack.proofs.related.related_rows.Goals as goal
 
 pub loop-place-init : goal.loop-place-init

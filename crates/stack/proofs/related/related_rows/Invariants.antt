@@ -1,10 +1,6 @@
 -- The loop's invariant: the rows of the places passed are made.
 use Prim.Native.Nat.{◌-◌, ◌≤◌}
-use mathlib.Core.Path.{refl}
-use Rattle.stack.proofs.Sums.{zeros}
-use Rattle.stack.proofs.Relating.{RowsBelow, rows_none, rows_more, rows_all}
-use native.Mathlib.Omega.{arith}
-use borrow.Author.Rules.{rules}
+use Rattle.stack.proofs.Relating.{RowsBelow}
 use Rattle.stack.proofs.related.related_rows.Given as goal
 
 abbrev pub invariant-loop-place : goal.invariant-loop-place

@@ -8,7 +8,6 @@ use Rattle.rules.specs.Blocks.{records, record_at, record_count}
 use Rattle.rules.specs.Records.{of_kind}
 use Rattle.rules.proofs.Numbers.{length-up_to}
 use Rattle.table.proofs.Counts.{kinds_grouped, kind_counted}
-use borrow.Author.Rules.{rules}
 use Rattle.table.proofs.count.count_kind.Goals as goal
 
 pub overflow_sub-result : goal.overflow_sub-result

@@ -1,22 +1,11 @@
 -- Each kind is 1, 2 or 3. For 2 and 3 the loop keeps that all records below `low` are of a lower kind and that the one at `high`
 -- is not; the middle halves what is between.
 -- the kind of record k
-use Prim.Native.Nat.{ℕ, ◌+◌, ◌-◌, ◌/◌, ◌≤◌, ◌<◌}
-use mathlib.Core.Path.{◌≡◌, ap, sym, ◌∙◌}
+use Prim.Native.Nat.{ℕ, ◌-◌, ◌≤◌, ◌<◌}
 use mathlib.Core.List.{List, []}
-use mathlib.Core.Bool.{true}
-use native.Mathlib.Omega.{arith}
-use borrow.Author.Count.{below_more}
-use borrow.Author.Rules.{rules}
 use lib.ListN.{get_or}
-use Rattle.rules.specs.Blocks.{records, record_at, record_count}
+use Rattle.rules.specs.Blocks.{records, record_count}
 use Rattle.rules.specs.Records.{kind_of}
-use Rattle.rules.specs.Refusals.{accepted, records_verdict}
-use Rattle.rules.specs.declared.Form.TheVariants.{Table}
-use Rattle.rules.proofs.Table.Kinds.{Known}
-use Rattle.rules.proofs.Table.Shape.{faultless_of, faultless_known}
-use Rattle.rules.proofs.Numbers.{length-up_to, get_or-up_to}
-use Rattle.table.proofs.Counts.{kinds_grouped}
 use Rattle.table.proofs.count.kind_start.Given as goal
 
 abbrev pub kind_at : List ℕ → ℕ → ℕ

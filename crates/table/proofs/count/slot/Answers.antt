@@ -1,7 +1,6 @@
 -- Each test in turn is that of the definition.
 use borrow.Author.Tests.{le-leb, lt-leb}
 use native.Mathlib.Omega.{arith}
-use borrow.Author.Rules.{rules}
 use Rattle.table.proofs.count.slot.Goals as goal
 
 pub returns-then-kind-gt3 : goal.returns-then-kind-gt3

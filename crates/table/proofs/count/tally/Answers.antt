@@ -1,5 +1,5 @@
 use mathlib.Core.Bool.{cond}
-use Prim.Native.Nat.{ℕ, ◌+◌, ◌-◌, ◌≤◌, ◌<◌}
+use Prim.Native.Nat.{ℕ, ◌+◌, ◌<◌}
 use mathlib.Core.Path.{◌≡◌, refl, sym, ap, ◌∙◌}
 use mathlib.Core.List.{List, []}
 use mathlib.Core.Bool.{Bool}
@@ -11,7 +11,6 @@ use Rattle.rules.specs.Blocks.{records, record_at, record_count}
 use Rattle.rules.proofs.Numbers.{either, get_or-up_to, length-up_to, sum_to_zero, count_to_passes, count_to_fails, count_to_le}
 use Rattle.table.specs.Tally.{slot_of, slotted}
 use native.Mathlib.Omega.{arith}
-use borrow.Author.Rules.{rules}
 use Rattle.table.proofs.count.tally.Goals as goal
 
 one_more : (rs : List (List ℕ)) (counts : List ℕ) (k at : ℕ) → at < 8 → slot_of (get_or rs k []) ≡ at → length counts ≡ 8

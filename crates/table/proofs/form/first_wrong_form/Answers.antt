@@ -1,15 +1,11 @@
-use Prim.Native.Nat.{ℕ, ◌-◌, ◌≤◌, ◌<◌}
+use Prim.Native.Nat.{◌<◌}
 use mathlib.Core.Path.{◌≡◌, sym, ap, ◌∙◌}
-use mathlib.Core.List.{List, []}
-use mathlib.Core.Bool.{Bool}
-use lib.ListN.{get_or}
+use mathlib.Core.List.{[]}
 use Rattle.rules.specs.Numbers.{lowest}
-use Rattle.rules.specs.Blocks.{records, record_at, record_count}
+use Rattle.rules.specs.Blocks.{record_at, record_count}
 use Rattle.rules.proofs.Numbers.{lowest_more, lowest_here, lowest_zero, get_or-up_to}
 use Rattle.rules.specs.Records.{form_wrong}
-use Rattle.rules.specs.declared.Form.{Form}
 use native.Mathlib.Omega.{arith}
-use borrow.Author.Rules.{rules}
 use Rattle.table.proofs.form.first_wrong_form.Invariants.{fault}
 use Rattle.table.proofs.form.first_wrong_form.Goals as goal
 

@@ -1,17 +1,14 @@
 -- The loop keeps that no record passed is of a wrong form.
 -- record k of the image is at fault
-use Prim.Native.Nat.{ℕ, ◌-◌, ◌≤◌, ◌<◌}
-use mathlib.Core.Path.{◌≡◌, sym, ap, ◌∙◌}
+use Prim.Native.Nat.{ℕ, ◌-◌, ◌≤◌}
+use mathlib.Core.Path.{◌≡◌}
 use mathlib.Core.List.{List, []}
 use mathlib.Core.Bool.{Bool}
 use lib.ListN.{get_or}
 use Rattle.rules.specs.Numbers.{lowest}
-use Rattle.rules.specs.Blocks.{records, record_at, record_count}
-use Rattle.rules.proofs.Numbers.{lowest_more, lowest_here, lowest_zero, get_or-up_to}
+use Rattle.rules.specs.Blocks.{records}
 use Rattle.rules.specs.Records.{form_wrong}
 use Rattle.rules.specs.declared.Form.{Form}
-use native.Mathlib.Omega.{arith}
-use borrow.Author.Rules.{rules}
 use Rattle.table.proofs.form.first_wrong_form.Given as goal
 
 abbrev pub fault : Form → List ℕ → ℕ → Bool

@@ -1,6 +1,5 @@
 -- Each test in turn is that of the definition for the kind at hand.
-use borrow.Author.Tests.{eq-eqb, ne_eqb, not-true, not-false}
-use borrow.Author.Rules.{rules}
+use borrow.Author.Tests.{eq-eqb, ne_eqb}
 use Rattle.table.proofs.form.has_zero_bytes.Goals as goal
 
 pub returns-then-not-is_blank : goal.returns-then-not-is_blank

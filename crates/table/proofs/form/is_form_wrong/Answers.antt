@@ -1,7 +1,6 @@
 -- Each test in turn is that of the definition.
 use borrow.Author.Tests.{le-leb, lt-leb}
 use Rattle.rules.specs.Records.{form_wrong}
-use borrow.Author.Rules.{rules}
 use Rattle.table.proofs.form.is_form_wrong.Goals as goal
 
 pub returns-then-kind-lt1 : goal.returns-then-kind-lt1

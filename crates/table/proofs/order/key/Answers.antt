@@ -1,7 +1,6 @@
 -- The key is put together as the definition does; kind, number and second task are below their limits.
 use borrow.Author.Tests.{eq-eqb, ne_eqb}
 use native.Mathlib.Omega.{arith}
-use borrow.Author.Rules.{rules}
 use Rattle.table.proofs.order.key.Goals as goal
 
 pub returns-then-kind-eq3 : goal.returns-then-kind-eq3

@@ -5,7 +5,6 @@ use mathlib.Core.Path.{◌≡◌, ap, sym, ◌∙◌}
 use mathlib.Core.List.{List}
 use native.Mathlib.Omega.{arith}
 use borrow.Author.Tests.{eq-eqb, ne_eqb}
-use borrow.Author.Rules.{rules}
 use Rattle.rules.specs.Records.{number_of, second_of}
 use Rattle.table.specs.Numbers.{place_among}
 use Rattle.table.proofs.pairs.mark_pair.Goals as goal

@@ -1,10 +1,6 @@
 -- The loop keeps that all below `low` are less and that `high` is not; the middle halves what is between.
-use Prim.Native.Nat.{ℕ, ◌+◌, ◌-◌, ◌/◌, ◌≤◌, ◌<◌}
-use mathlib.Core.Path.{◌≡◌}
+use Prim.Native.Nat.{ℕ, ◌-◌, ◌≤◌, ◌<◌}
 use lib.ListN.{get_or}
-use borrow.Author.Count.{below_more}
-use native.Mathlib.Omega.{arith}
-use borrow.Author.Rules.{rules}
 use Rattle.table.proofs.place.lower_place.Given as goal
 
 abbrev pub invariant-loop-low : goal.invariant-loop-low

@@ -1,11 +1,10 @@
 use Rattle.rules.proofs.Numbers.{set_next}
-use Prim.Native.Nat.{ℕ, ◌+◌, ◌-◌, ◌≤◌, ◌<◌}
+use Prim.Native.Nat.{◌+◌}
 use mathlib.Core.Path.{◌≡◌, refl, ap, ◌∙◌}
-use lib.ListN.{length, get_or, length-set}
+use lib.ListN.{length-set}
 use Rattle.rules.specs.Blocks.{record_at}
 use Rattle.rules.specs.Records.{number_of}
 use native.Mathlib.Omega.{arith}
-use borrow.Author.Rules.{rules}
 use Rattle.table.proofs.place.numbers_from.Goals as goal
 
 pub loop-k-init : goal.loop-k-init

@@ -1,12 +1,9 @@
 -- The loop keeps that the numbers stored are those of the records passed.
-use Rattle.rules.proofs.Numbers.{set_next}
 use Prim.Native.Nat.{ℕ, ◌+◌, ◌-◌, ◌≤◌, ◌<◌}
-use mathlib.Core.Path.{◌≡◌, refl, ap, ◌∙◌}
-use lib.ListN.{length, get_or, length-set}
+use mathlib.Core.Path.{◌≡◌}
+use lib.ListN.{length, get_or}
 use Rattle.rules.specs.Blocks.{record_at}
 use Rattle.rules.specs.Records.{number_of}
-use native.Mathlib.Omega.{arith}
-use borrow.Author.Rules.{rules}
 use Rattle.table.proofs.place.numbers_from.Given as goal
 
 abbrev pub invariant-loop-k : goal.invariant-loop-k

@@ -1,12 +1,7 @@
-use Prim.Native.Nat.{ℕ, ◌+◌, ◌-◌, ◌≤◌}
-use mathlib.Core.Bool.{Bool}
-use mathlib.Core.List.{List}
+use Prim.Native.Nat.{◌+◌}
 use mathlib.Core.Path.{◌≡◌, ap, sym, ◌∙◌}
 use native.Mathlib.Omega.{arith}
 use borrow.Author.Tests.{eq-eqb, ne_eqb}
-use borrow.Author.Rules.{rules}
-use lib.Dec.{eqb}
-use Rattle.rules.specs.Numbers.{lowest}
 use Rattle.rules.specs.Blocks.{record_at}
 use Rattle.rules.specs.Records.{number_of}
 use Rattle.rules.proofs.Numbers.{lowest_zero, lowest_more, lowest_here}

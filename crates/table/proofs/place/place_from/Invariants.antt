@@ -3,15 +3,11 @@
 use Prim.Native.Nat.{ℕ, ◌+◌, ◌-◌, ◌≤◌}
 use mathlib.Core.Bool.{Bool}
 use mathlib.Core.List.{List}
-use mathlib.Core.Path.{◌≡◌, ap, sym, ◌∙◌}
-use native.Mathlib.Omega.{arith}
-use borrow.Author.Tests.{eq-eqb, ne_eqb}
-use borrow.Author.Rules.{rules}
+use mathlib.Core.Path.{◌≡◌}
 use lib.Dec.{eqb}
 use Rattle.rules.specs.Numbers.{lowest}
 use Rattle.rules.specs.Blocks.{record_at}
 use Rattle.rules.specs.Records.{number_of}
-use Rattle.rules.proofs.Numbers.{lowest_zero, lowest_more, lowest_here}
 use Rattle.table.proofs.place.place_from.Given as goal
 
 abbrev pub has : List ℕ → ℕ → ℕ → ℕ → Bool

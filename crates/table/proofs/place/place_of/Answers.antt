@@ -2,7 +2,6 @@
 use mathlib.Core.Path.{sym}
 use Rattle.table.proofs.Places.{place_found, place_none}
 use native.Mathlib.Omega.{arith}
-use borrow.Author.Rules.{rules}
 use Rattle.table.proofs.place.place_of.Goals as goal
 
 pub returns-then-numbers-place : goal.returns-then-numbers-place

@@ -1,11 +1,6 @@
-use Prim.Native.Nat.{ℕ, ◌-◌, ◌≤◌}
-use mathlib.Core.Bool.{Bool}
-use mathlib.Core.List.{List}
 use mathlib.Core.Path.{◌≡◌, sym, ap, ◌∙◌}
 use native.Mathlib.Omega.{arith}
-use borrow.Author.Rules.{rules}
 use Rattle.rules.specs.Numbers.{lowest}
-use Rattle.rules.specs.Preempt.{cell}
 use Rattle.rules.proofs.Numbers.{lowest_more, lowest_here, lowest_zero}
 use Rattle.table.proofs.precedence.first_circle.Invariants.{own}
 use Rattle.table.proofs.precedence.first_circle.Goals as goal

@@ -1,16 +1,13 @@
 -- The loop keeps that no record passed has a field out of range.
 -- record k of the image is at fault
-use Prim.Native.Nat.{ℕ, ◌-◌, ◌≤◌, ◌<◌}
-use mathlib.Core.Path.{◌≡◌, sym, ap, ◌∙◌}
+use Prim.Native.Nat.{ℕ, ◌-◌, ◌≤◌}
+use mathlib.Core.Path.{◌≡◌}
 use mathlib.Core.List.{List, []}
 use mathlib.Core.Bool.{Bool}
 use lib.ListN.{get_or}
 use Rattle.rules.specs.Numbers.{lowest}
-use Rattle.rules.specs.Blocks.{records, record_at, record_count}
-use Rattle.rules.proofs.Numbers.{lowest_more, lowest_here, lowest_zero, get_or-up_to}
+use Rattle.rules.specs.Blocks.{records}
 use Rattle.rules.specs.Records.{range_wrong}
-use native.Mathlib.Omega.{arith}
-use borrow.Author.Rules.{rules}
 use Rattle.table.proofs.range.first_wrong_range.Given as goal
 
 abbrev pub fault : List ℕ → ℕ → Bool

@@ -1,6 +1,5 @@
 -- Each test in turn is that of the definition.
 use borrow.Author.Tests.{le-leb, lt-leb}
-use borrow.Author.Rules.{rules}
 use Rattle.table.proofs.range.is_pair_right.Goals as goal
 
 pub returns-then-byte_at-gt1 : goal.returns-then-byte_at-gt1

@@ -1,6 +1,4 @@
 -- Each test in turn is that of the definition.
-use borrow.Author.Tests.{not-true, not-false}
-use borrow.Author.Rules.{rules}
 use Rattle.table.proofs.range.is_task_right.Goals as goal
 
 pub returns-then-not-is_name_right : goal.returns-then-not-is_name_right

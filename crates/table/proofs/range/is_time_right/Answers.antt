@@ -1,6 +1,5 @@
 -- Each test in turn is that of the definition.
-use borrow.Author.Tests.{le-leb, lt-leb, not-true, not-false}
-use borrow.Author.Rules.{rules}
+use borrow.Author.Tests.{le-leb, lt-leb}
 use Rattle.table.proofs.range.is_time_right.Goals as goal
 
 pub returns-then-offset-gt999999999 : goal.returns-then-offset-gt999999999

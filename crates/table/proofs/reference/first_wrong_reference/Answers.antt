@@ -1,14 +1,11 @@
-use Prim.Native.Nat.{ℕ, ◌-◌, ◌≤◌, ◌<◌}
+use Prim.Native.Nat.{◌<◌}
 use mathlib.Core.Path.{◌≡◌, sym, ap, ◌∙◌}
-use mathlib.Core.List.{List, []}
-use mathlib.Core.Bool.{Bool}
-use lib.ListN.{get_or}
+use mathlib.Core.List.{[]}
 use Rattle.rules.specs.Numbers.{lowest}
 use Rattle.rules.specs.Blocks.{records, record_at, record_count}
 use Rattle.rules.specs.Records.{reference_wrong}
 use Rattle.rules.proofs.Numbers.{lowest_more, lowest_here, lowest_zero, get_or-up_to}
 use native.Mathlib.Omega.{arith}
-use borrow.Author.Rules.{rules}
 use Rattle.table.proofs.reference.first_wrong_reference.Invariants.{fault}
 use Rattle.table.proofs.reference.first_wrong_reference.Goals as goal
 

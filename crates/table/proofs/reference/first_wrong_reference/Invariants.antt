@@ -1,16 +1,13 @@
 -- The loop keeps that no record passed refers to something not listed.
 -- record k of the image refers to something not listed
-use Prim.Native.Nat.{ℕ, ◌-◌, ◌≤◌, ◌<◌}
-use mathlib.Core.Path.{◌≡◌, sym, ap, ◌∙◌}
+use Prim.Native.Nat.{ℕ, ◌-◌, ◌≤◌}
+use mathlib.Core.Path.{◌≡◌}
 use mathlib.Core.List.{List, []}
 use mathlib.Core.Bool.{Bool}
 use lib.ListN.{get_or}
 use Rattle.rules.specs.Numbers.{lowest}
-use Rattle.rules.specs.Blocks.{records, record_at, record_count}
+use Rattle.rules.specs.Blocks.{records}
 use Rattle.rules.specs.Records.{reference_wrong}
-use Rattle.rules.proofs.Numbers.{lowest_more, lowest_here, lowest_zero, get_or-up_to}
-use native.Mathlib.Omega.{arith}
-use borrow.Author.Rules.{rules}
 use Rattle.table.proofs.reference.first_wrong_reference.Given as goal
 
 abbrev pub fault : List ℕ → ℕ → Bool

@@ -1,7 +1,6 @@
 -- The test is that of the kind at hand.
 use borrow.Author.Tests.{eq-eqb, ne_eqb}
 use Rattle.rules.specs.Records.{reference_wrong}
-use borrow.Author.Rules.{rules}
 use Rattle.table.proofs.reference.is_reference_wrong.Goals as goal
 
 pub returns-then-kind-eq2 : goal.returns-then-kind-eq2

@@ -7,7 +7,6 @@ use Rattle.rules.specs.Blocks.{records}
 use Rattle.rules.specs.Records.{number_of, second_of, tasks, listed}
 use Rattle.table.specs.Numbers.{place_among}
 use Rattle.table.proofs.Places.{listed_is}
-use borrow.Author.Rules.{rules}
 use Rattle.table.proofs.reference.is_task_missing.Goals as goal
 
 pub place_of-requires : goal.place_of-requires

@@ -13,7 +13,6 @@ use Rattle.rules.proofs.Table.Kinds.{length_split}
 use Rattle.table.specs.Numbers.{place_among}
 use Rattle.table.proofs.Places.{listed_is, place_in, transaction_is, not_below, shape}
 use native.Mathlib.Omega.{arith}
-use borrow.Author.Rules.{rules}
 use Rattle.table.proofs.reference.is_transaction_missing.Goals as goal
 
 pub place_of-place-requires : goal.place_of-place-requires

@@ -6,7 +6,6 @@ use Rattle.rules.specs.Refusals.{numbered}
 use Rattle.rules.proofs.Refusals.{or_else-refusal, numbered-some}
 use Rattle.table.proofs.Counts.{too_many_is}
 use native.Mathlib.Omega.{arith}
-use borrow.Author.Rules.{rules}
 use Rattle.table.proofs.verdict.count_verdict.Goals as goal
 
 pub returns-then-has_too_many : goal.returns-then-has_too_many

@@ -1,6 +1,5 @@
 -- Each test in turn is that of the definition.
 use borrow.Author.Tests.{lt-ltb, le-ltb}
-use borrow.Author.Rules.{rules}
 use Rattle.table.proofs.verdict.has_too_many.Goals as goal
 
 pub returns-then-most-counts : goal.returns-then-most-counts

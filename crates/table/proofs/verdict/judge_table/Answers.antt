@@ -5,7 +5,6 @@ use Rattle.rules.specs.Refusals.{or_else, frame_verdict, records_verdict, refere
 use Rattle.rules.proofs.Refusals.{zero_accepted, other_refused}
 use Rattle.table.proofs.Counts.{records_few, records_held}
 use Rattle.table.proofs.Judging.{judges_first, judges_second}
-use borrow.Author.Rules.{rules}
 use Rattle.table.proofs.verdict.judge_table.Goals as goal
 
 pub returns-then-frame-ne0 : goal.returns-then-frame-ne0

@@ -5,7 +5,6 @@ use borrow.Author.Tests.{eq-eqb, ne_eqb}
 use Rattle.rules.specs.declared.Form.TheVariants.{Patch}
 use Rattle.rules.specs.Refusals.{accepted, frame_verdict, patch_verdict}
 use Rattle.table.proofs.Counts.{records_few, records_held}
-use borrow.Author.Rules.{rules}
 use Rattle.table.proofs.verdict.patch_verdict.Goals as goal
 
 pub returns-then-frame-ne0 : goal.returns-then-frame-ne0

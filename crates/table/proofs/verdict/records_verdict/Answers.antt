@@ -9,7 +9,6 @@ use Rattle.rules.specs.Refusals.{numbered, order_wrong, records_verdict}
 use Rattle.rules.proofs.Numbers.{lowest_le, length-up_to}
 use Rattle.rules.proofs.Refusals.{or_else-refusal, numbered-some, refuse_at_found, refuse_at-none}
 use native.Mathlib.Omega.{arith}
-use borrow.Author.Rules.{rules}
 use Rattle.table.proofs.verdict.records_verdict.Goals as goal
 
 pub returns-then-misformed-count : goal.returns-then-misformed-count

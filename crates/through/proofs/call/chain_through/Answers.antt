@@ -3,10 +3,9 @@
 use Prim.Native.Nat.{ℕ, ◌<◌}
 use mathlib.Core.List.{map}
 use mathlib.Core.Bool.{true, false, ◌||◌, or-true}
-use mathlib.Core.Logic.{⊎_elim}
 use mathlib.Core.Path.{◌≡◌, sym, ap, subst, ◌∙◌}
 use native.Mathlib.Omega.{arith}
-use borrow.Author.Tests.{lt-ltb, ltb-false, eq-eqb, ne_eqb, not-true, not-false}
+use borrow.Author.Tests.{lt-ltb, eq-eqb, ne_eqb, not-true, not-false}
 use lib.Dec.{ltb}
 use lib.ListN.{length, get_or}
 use lib.Seq.{length-take-le}

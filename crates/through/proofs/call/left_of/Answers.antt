@@ -1,6 +1,5 @@
 -- Two numbers of four bytes differ by a number of 64 bits with a sign.
 use Rattle.through.proofs.Writing.{left_fits, left_written}
-use borrow.Author.Rules.{rules}
 use Rattle.through.proofs.call.left_of.Goals as goal
 
 pub overflow_sub-result : goal.overflow_sub-result

@@ -1,15 +1,14 @@
-use Prim.Native.Nat.{ℕ, ◌-◌, ◌≤◌}
+use Prim.Native.Nat.{ℕ}
 use mathlib.Core.List.{List}
 use mathlib.Core.Path.{◌≡◌, refl, ap, ◌∙◌}
 use lib.IntN.{ℤ, sub_ℕ}
-use lib.ListN.{length, get_or, set, length-set}
+use lib.ListN.{get_or, set, length-set}
 use mir.Syntax.{w64}
 use mir.Val.{to_z, of_z}
 use Rattle.rules.specs.Numbers.{up_to}
 use Rattle.rules.specs.Calls.{over}
 use Rattle.through.proofs.Writing.{left_kept, figures_none, figures_next}
 use native.Mathlib.Omega.{arith}
-use borrow.Author.Rules.{rules}
 use Rattle.through.proofs.call.write_figures.Goals as goal
 
 pub loop-place-init : goal.loop-place-init

@@ -1,16 +1,10 @@
 -- The loop keeps that the figures of the places passed are written over the start of the room.
-use Prim.Native.Nat.{ℕ, ◌-◌, ◌≤◌}
-use mathlib.Core.List.{List}
-use mathlib.Core.Path.{◌≡◌, refl, ap, ◌∙◌}
-use lib.IntN.{ℤ, sub_ℕ}
-use lib.ListN.{length, get_or, set, length-set}
-use mir.Syntax.{w64}
-use mir.Val.{to_z, of_z}
+use Prim.Native.Nat.{◌-◌, ◌≤◌}
+use mathlib.Core.Path.{◌≡◌}
+use lib.IntN.{sub_ℕ}
+use lib.ListN.{length, get_or}
 use Rattle.rules.specs.Numbers.{up_to}
 use Rattle.rules.specs.Calls.{over}
-use Rattle.through.proofs.Writing.{left_kept, figures_none, figures_next}
-use native.Mathlib.Omega.{arith}
-use borrow.Author.Rules.{rules}
 use Rattle.through.proofs.call.write_figures.Given as goal
 
 abbrev pub invariant-loop-place : goal.invariant-loop-place

@@ -1,10 +1,8 @@
 -- Each way out is one of the answers of a bound call with a limit.
 -- past the first test the table is accepted
 use mathlib.Core.Bool.{true, false, ◌||◌, or-true}
-use mathlib.Core.Logic.{⊎_elim}
 use mathlib.Core.Path.{◌≡◌, refl, sym, ap, subst, ◌∙◌}
-use borrow.Author.Rules.{rules}
-use borrow.Author.Tests.{lt-ltb, ltb-false}
+use borrow.Author.Tests.{lt-ltb}
 use lib.Dec.{ltb}
 use lib.ListN.{length}
 use Rattle.rules.specs.declared.BoundsWithin.{BoundsWithin}
