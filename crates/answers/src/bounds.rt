@@ -2,6 +2,8 @@
 use crate::{digest, print, space};
 use image::bytes::four_bytes;
 use rules::{Bounds, BoundsWithin};
+use std::io;
+use std::io::Read;
 
 // How much of everything a case lends, and the limit of `H`.
 #[derive(Drop)]
@@ -27,76 +29,92 @@ pub fn asked_by(header: &[u8]) -> Asked {
 }
 
 // The numbers of a bound call, in the order of the stream's description.
-pub fn print_found(found: Bounds) {
-    print::number(found.number as u64);
-    print::number(found.place as u64);
-    print::number(found.tasks as u64);
-    print::number(found.chain as u64);
-    print::number(found.path as u64);
-    print::number(found.transactions as u64);
-    print::number(found.levels as u64);
-    print::number(found.length as u64);
+pub fn print_found(out: &impl Print, found: Bounds) -> io::Result<()> {
+    print::number(out, found.number as u64)?;
+    print::number(out, found.place as u64)?;
+    print::number(out, found.tasks as u64)?;
+    print::number(out, found.chain as u64)?;
+    print::number(out, found.path as u64)?;
+    print::number(out, found.transactions as u64)?;
+    print::number(out, found.levels as u64)?;
+    print::number(out, found.length as u64)
 }
 
 // The numbers of a bound call with a limit, likewise.
-fn print_within(found: BoundsWithin) {
-    print::number(found.number as u64);
-    print::number(found.place as u64);
-    print::number(found.tasks as u64);
-    print::number(found.chain as u64);
-    print::number(found.path as u64);
-    print::number(found.transactions as u64);
-    print::number(found.levels as u64);
-    print::number(found.length as u64);
-    print::number(found.opened as u64);
+fn print_within(out: &impl Print, found: BoundsWithin) -> io::Result<()> {
+    print::number(out, found.number as u64)?;
+    print::number(out, found.place as u64)?;
+    print::number(out, found.tasks as u64)?;
+    print::number(out, found.chain as u64)?;
+    print::number(out, found.path as u64)?;
+    print::number(out, found.transactions as u64)?;
+    print::number(out, found.levels as u64)?;
+    print::number(out, found.length as u64)?;
+    print::number(out, found.opened as u64)
 }
 
 // Ends a line with the digest of the room for ids.
-fn end_line(ids: &[u16]) {
-    print::number(digest::of_ids(ids));
-    print::line_end();
+fn end_line(out: &impl Print, ids: &[u16]) -> io::Result<()> {
+    print::number(out, digest::of_ids(ids))?;
+    print::line_end(out)
 }
 
 // Makes the call on this image, map and room, and prints its answer.
-fn answer_call(call: u8, limit: u32, image: &[u8], rows: &[u64], ids: &mut [u16]) {
-    print::letter(call);
+fn answer_call(
+    out: &impl Print,
+    call: u8,
+    limit: u32,
+    image: &[u8],
+    rows: &[u64],
+    ids: &mut [u16],
+) -> io::Result<()> {
+    print::letter(out, call)?;
     if call == b'H' {
-        print_within(within::call::bounds_within(image, rows, ids, limit));
-        end_line(ids);
-        return;
+        print_within(out, within::call::bounds_within(image, rows, ids, limit))?;
+        end_line(out, ids)?;
+        return Ok(());
     }
-    print_found(stack::call::find_bounds(image, rows, ids));
-    end_line(ids);
+    print_found(out, stack::call::find_bounds(image, rows, ids))?;
+    end_line(out, ids)
 }
 
 // Reads what is lent into the spaces and answers, or says that the stream is broken.
-fn answer_in(call: u8, asked: Asked, image: &mut [u8], rows: &mut [u64], ids: &mut [u16]) -> bool {
+fn answer_in(
+    input: &mut impl Read,
+    out: &impl Print,
+    call: u8,
+    asked: Asked,
+    image: &mut [u8],
+    rows: &mut [u64],
+    ids: &mut [u16],
+) -> io::Result<bool> {
     let image_bytes = asked.image_bytes;
     let row_count = asked.row_count;
     let id_count = asked.id_count;
-    if space::fill(image, image_bytes) < image_bytes {
-        return false;
+    if space::fill(input, image, image_bytes)? < image_bytes {
+        return Ok(false);
     }
-    if space::fill_rows(rows, row_count) < row_count {
-        return false;
+    if space::fill_rows(input, rows, row_count)? < row_count {
+        return Ok(false);
     }
-    if space::fill_ids(ids, id_count) < id_count {
-        return false;
+    if space::fill_ids(input, ids, id_count)? < id_count {
+        return Ok(false);
     }
     answer_call(
+        out,
         call,
         asked.limit,
         &image[..image_bytes],
         &rows[..row_count],
         &mut ids[..id_count],
-    );
-    true
+    )?;
+    Ok(true)
 }
 
 // Answers one case, or says that the stream is broken.
-pub fn answer(call: u8, asked: Asked) -> bool {
+pub fn answer(input: &mut impl Read, out: &impl Print, call: u8, asked: Asked) -> io::Result<bool> {
     let mut image = space::image();
     let mut rows = space::rows();
     let mut ids = space::ids();
-    answer_in(call, asked, &mut image, &mut rows, &mut ids)
+    answer_in(input, out, call, asked, &mut image, &mut rows, &mut ids)
 }

@@ -1,8 +1,6 @@
 // The digest of a buffer, as docs/STREAM.md describes it.
 ghost use Rattle.std.specs.Prelude.{◌<◌};
 
-use image::bytes::byte_at;
-
 const MODULUS: u64 = 4_294_967_291;
 
 // The bits of -1.
@@ -10,7 +8,8 @@ const ALL_BITS: u64 = 18_446_744_073_709_551_615;
 
 // The digest with one byte more.
 fn with_byte(digest: u64, byte: u64) -> u64
-    requires { (digest < 4294967291) × (byte < 256) }
+    requires is_digest { digest < 4294967291 }
+    requires is_byte { byte < 256 }
     ensures { result < 4294967291 }
 {
     (digest * 65_599 + byte + 1) % MODULUS
@@ -23,11 +22,9 @@ fn with_number(digest: u64, number: u64, count: u32) -> u64
 {
     let mut sum = digest;
     let mut rest = number;
-    let mut left = count;
-    while 0 < left {
+    for _ in 0..count {
         sum = with_byte(sum, rest % 256);
         rest /= 256;
-        left -= 1;
     }
     sum
 }
@@ -37,10 +34,8 @@ pub fn of_bytes(bytes: &[u8]) -> u64
     ensures { result < 4294967291 }
 {
     let mut sum: u64 = 1;
-    let mut k: usize = 0;
-    while k < bytes.len() {
-        sum = with_byte(sum, byte_at(bytes, k) as u64);
-        k += 1;
+    for byte in bytes {
+        sum = with_byte(sum, *byte as u64);
     }
     sum
 }
@@ -50,10 +45,8 @@ pub fn of_rows(rows: &[u64]) -> u64
     ensures { result < 4294967291 }
 {
     let mut sum: u64 = 1;
-    let mut k: usize = 0;
-    while k < rows.len() {
-        sum = with_number(sum, rows[k], 8);
-        k += 1;
+    for row in rows {
+        sum = with_number(sum, *row, 8);
     }
     sum
 }
@@ -63,11 +56,8 @@ pub fn of_ids(ids: &[u16]) -> u64
     ensures { result < 4294967291 }
 {
     let mut sum: u64 = 1;
-    let mut k: usize = 0;
-    while k < ids.len() {
-        let id = ids[k];
-        sum = with_number(sum, id as u64, 2);
-        k += 1;
+    for id in ids {
+        sum = with_number(sum, *id as u64, 2);
     }
     sum
 }
@@ -85,10 +75,8 @@ pub fn of_figures(figures: &[i64]) -> u64
     ensures { result < 4294967291 }
 {
     let mut sum: u64 = 1;
-    let mut k: usize = 0;
-    while k < figures.len() {
-        sum = with_number(sum, bits_of(figures[k]), 8);
-        k += 1;
+    for figure in figures {
+        sum = with_number(sum, bits_of(*figure), 8);
     }
     sum
 }

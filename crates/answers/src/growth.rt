@@ -2,6 +2,8 @@
 use crate::{digest, print, space};
 use image::bytes::four_bytes;
 use rules::{Shown, Verdict};
+use std::io;
+use std::io::Read;
 
 // How much of everything a case lends, and what it asks for.
 #[derive(Drop)]
@@ -33,87 +35,111 @@ pub fn asked_by(header: &[u8]) -> Asked {
 }
 
 // The numbers of a room call, in the order of the stream's description.
-fn print_verdict(verdict: Verdict) {
-    print::number(verdict.number as u64);
-    print::number(verdict.place as u64);
+fn print_verdict(out: &impl Print, verdict: Verdict) -> io::Result<()> {
+    print::number(out, verdict.number as u64)?;
+    print::number(out, verdict.place as u64)
 }
 
 // The numbers of a chain call for one task, likewise.
-fn print_shown(shown: Shown) {
-    print::number(shown.number as u64);
-    print::number(shown.place as u64);
-    print::number(shown.weight as u64);
-    print::number(shown.length as u64);
+fn print_shown(out: &impl Print, shown: Shown) -> io::Result<()> {
+    print::number(out, shown.number as u64)?;
+    print::number(out, shown.place as u64)?;
+    print::number(out, shown.weight as u64)?;
+    print::number(out, shown.length as u64)
 }
 
 // Makes the room call on what is lent, and prints its answer.
-fn answer_room(image: &[u8], map: &[u64], reserve: u32, figures: &mut [i64]) {
-    print::letter(b'G');
-    print_verdict(through::call::room_left(image, map, reserve, figures));
-    print::number(digest::of_figures(figures));
+fn answer_room(
+    out: &impl Print,
+    image: &[u8],
+    map: &[u64],
+    reserve: u32,
+    figures: &mut [i64],
+) -> io::Result<()> {
+    print::letter(out, b'G')?;
+    print_verdict(out, through::call::room_left(image, map, reserve, figures))?;
+    print::number(out, digest::of_figures(figures))
 }
 
 // Makes the chain call for the task with this id, and prints its answer behind a bar.
-fn answer_through(image: &[u8], map: &[u64], id: u32, ids: &mut [u16]) {
-    print::bar();
-    print_shown(through::call::chain_through(image, map, id, ids));
-    print::number(digest::of_ids(ids));
-    print::line_end();
+fn answer_through(
+    out: &impl Print,
+    image: &[u8],
+    map: &[u64],
+    id: u32,
+    ids: &mut [u16],
+) -> io::Result<()> {
+    print::bar(out)?;
+    print_shown(out, through::call::chain_through(image, map, id, ids))?;
+    print::number(out, digest::of_ids(ids))?;
+    print::line_end(out)
 }
 
 // Makes both calls, and prints their answers.
 fn answer_calls(
+    out: &impl Print,
     image: &[u8],
     map: &[u64],
     reserve: u32,
     id: u32,
     figures: &mut [i64],
     ids: &mut [u16],
-) {
-    answer_room(image, map, reserve, figures);
-    answer_through(image, map, id, ids);
+) -> io::Result<()> {
+    answer_room(out, image, map, reserve, figures)?;
+    answer_through(out, image, map, id, ids)
 }
 
 // Reads what is lent into the spaces and answers, or says that the stream is broken.
 fn answer_in(
+    input: &mut impl Read,
+    out: &impl Print,
     asked: Asked,
     image: &mut [u8],
     map: &mut [u64],
     figures: &mut [i64],
     ids: &mut [u16],
-) -> bool {
+) -> io::Result<bool> {
     let image_bytes = asked.image_bytes;
     let map_rows = asked.map_rows;
     let figure_count = asked.figure_count;
     let id_count = asked.id_count;
-    if space::fill(image, image_bytes) < image_bytes {
-        return false;
+    if space::fill(input, image, image_bytes)? < image_bytes {
+        return Ok(false);
     }
-    if space::fill_rows(map, map_rows) < map_rows {
-        return false;
+    if space::fill_rows(input, map, map_rows)? < map_rows {
+        return Ok(false);
     }
-    if space::fill_figures(figures, figure_count) < figure_count {
-        return false;
+    if space::fill_figures(input, figures, figure_count)? < figure_count {
+        return Ok(false);
     }
-    if space::fill_ids(ids, id_count) < id_count {
-        return false;
+    if space::fill_ids(input, ids, id_count)? < id_count {
+        return Ok(false);
     }
     answer_calls(
+        out,
         &image[..image_bytes],
         &map[..map_rows],
         asked.reserve,
         asked.id,
         &mut figures[..figure_count],
         &mut ids[..id_count],
-    );
-    true
+    )?;
+    Ok(true)
 }
 
 // Answers one case, or says that the stream is broken.
-pub fn answer(asked: Asked) -> bool {
+pub fn answer(input: &mut impl Read, out: &impl Print, asked: Asked) -> io::Result<bool> {
     let mut image = space::image();
     let mut map = space::rows();
     let mut figures = space::figures();
     let mut ids = space::ids();
-    answer_in(asked, &mut image, &mut map, &mut figures, &mut ids)
+    answer_in(
+        input,
+        out,
+        asked,
+        &mut image,
+        &mut map,
+        &mut figures,
+        &mut ids,
+    )
 }

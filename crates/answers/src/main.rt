@@ -1,4 +1,5 @@
-// A test program: reads a stream of cases (docs/STREAM.md) from standard input and prints the answer to each.
+// A test program: reads a stream of cases (docs/STREAM.md) from standard input and prints the answer to each. An error of reading or
+// printing ends it, and leaves what was printed before.
 
 #![tactic(auto)]
 
@@ -16,17 +17,19 @@ mod trips;
 mod verdicts;
 
 use crate::patches::Lent;
+use console::input::read_full;
 use image::bytes::four_bytes;
-use libc::STDIN_FILENO;
+use std::io;
+use std::io::Read;
 
 // More cases than any stream of the gate has.
 const MOST_CASES: u32 = 10_000_000;
 
 // Answers the next case, or says that the stream ends here.
-fn answer_next() -> bool {
+fn answer_next(input: &mut impl Read, out: &impl Print) -> io::Result<bool> {
     let mut header = [0u8; 32];
-    if io::read_full(STDIN_FILENO, &mut header) != 32 {
-        return false;
+    if read_full(input, &mut header)? != 32 {
+        return Ok(false);
     }
     let image_bytes = four_bytes(&header, 4) as usize;
     let patch_bytes = four_bytes(&header, 8) as usize;
@@ -42,27 +45,27 @@ fn answer_next() -> bool {
     };
     let call = header[0];
     match call {
-        b'T' => verdicts::answer(b'T', image_bytes),
-        b'P' => verdicts::answer(b'P', image_bytes),
-        b'M' => maps::answer(image_bytes, written_rows),
-        b'B' => bounds::answer(b'B', bounds::asked_by(&header)),
-        b'H' => bounds::answer(b'H', bounds::asked_by(&header)),
-        b'A' => patches::answer(lent),
-        b'V' => reverses::answer(image_bytes, room_bytes),
-        b'U' => trips::answer(lent),
-        b'G' => growth::answer(growth::asked_by(&header)),
-        b'W' => reasons::answer(image_bytes, read_rows),
-        b'R' => runs::answer(image_bytes, read_rows, four_bytes(&header, 28)),
-        _ => false,
+        b'T' => verdicts::answer(input, out, b'T', image_bytes),
+        b'P' => verdicts::answer(input, out, b'P', image_bytes),
+        b'M' => maps::answer(input, out, image_bytes, written_rows),
+        b'B' => bounds::answer(input, out, b'B', bounds::asked_by(&header)),
+        b'H' => bounds::answer(input, out, b'H', bounds::asked_by(&header)),
+        b'A' => patches::answer(input, out, lent),
+        b'V' => reverses::answer(input, out, image_bytes, room_bytes),
+        b'U' => trips::answer(input, out, lent),
+        b'G' => growth::answer(input, out, growth::asked_by(&header)),
+        b'W' => reasons::answer(input, out, image_bytes, read_rows),
+        b'R' => runs::answer(input, out, image_bytes, read_rows, four_bytes(&header, 28)),
+        _ => Ok(false),
     }
 }
 
-fn main() {
-    let mut left = MOST_CASES;
-    while 0 < left {
-        if !answer_next() {
-            return;
+fn main(rt: HostRuntime) -> io::Result<()> {
+    let mut input = rt.stdin();
+    for _ in 0..MOST_CASES {
+        if !answer_next(&mut input, &rt)? {
+            break;
         }
-        left -= 1;
     }
+    Ok(())
 }

@@ -1,23 +1,21 @@
 // The parts of an answer's line.
-use libc::STDOUT_FILENO;
+use std::io;
 
 // The call's letter, at the start of a line.
-pub fn letter(call: u8) {
-    let text = [call];
-    io::write_all(STDOUT_FILENO, &text);
+pub fn letter(out: &impl Print, call: u8) -> io::Result<()> {
+    out.write_all(&[call])
 }
 
 // A number of the answer, behind a space.
-pub fn number(value: u64) {
-    io::write_all(STDOUT_FILENO, b" ");
-    io::print_decimal(STDOUT_FILENO, value);
+pub fn number(out: &impl Print, value: u64) -> io::Result<()> {
+    print!(out; " {value}")
 }
 
-pub fn line_end() {
-    io::write_all(STDOUT_FILENO, b"\n");
+pub fn line_end(out: &impl Print) -> io::Result<()> {
+    out.write_all(b"\n")
 }
 
 // What stands before each step of a run.
-pub fn bar() {
-    io::write_all(STDOUT_FILENO, b" |");
+pub fn bar(out: &impl Print) -> io::Result<()> {
+    out.write_all(b" |")
 }

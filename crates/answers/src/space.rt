@@ -1,8 +1,10 @@
 // Room for what a case lends, and reading it from the stream.
-ghost use Rattle.std.specs.Prelude.{◌≡◌, ◌≤◌, length};
+ghost use Rattle.std.specs.Prelude.{◌≡◌, ◌≤◌, IfOk, OnErr, length};
 
+use console::input::read_full;
 use image::bytes::{four_bytes, two_bytes};
-use libc::STDIN_FILENO;
+use std::io;
+use std::io::Read;
 
 // The least bits of a negative number, and the bits of -1.
 const SIGN: u64 = 9_223_372_036_854_775_808;
@@ -67,13 +69,13 @@ fn row_bytes() -> [u8; 640]
 
 // Reads count bytes to the start of the space and answers how many came: fewer where the stream ends before, and none
 // where the space is too short.
-pub fn fill(space: &mut [u8], count: usize) -> usize
-    ensures { result ≤ length space.new }
+pub fn fill(input: &mut impl Read, space: &mut [u8], count: usize) -> io::Result<usize>
+    ensures { IfOk result (λ n. n ≤ length space.new) }
 {
     if space.len() < count {
-        return 0;
+        return Ok(0);
     }
-    io::read_full(STDIN_FILENO, &mut space[..count])
+    read_full(input, &mut space[..count])
 }
 
 // The little-endian number of eight bytes at a place.
@@ -87,60 +89,60 @@ fn eight_bytes(bytes: &[u8], at: usize) -> u64
 
 // Sets the first count rows from their bytes.
 fn set_rows(rows: &mut [u64], bytes: &[u8], count: usize)
-    requires { (count ≤ length rows.old) × (count ≤ 80) }
+    requires in_bounds { count ≤ length rows.old }
+    requires few { count ≤ 80 }
 {
-    let mut k: usize = 0;
-    while k < count {
+    for k in 0..count {
         rows[k] = eight_bytes(bytes, 8 * k);
-        k += 1;
     }
 }
 
 // Reads count rows to the start of a map and answers how many came: none where the stream or the map ends before.
-pub fn fill_rows(rows: &mut [u64], count: usize) -> usize
-    ensures { result ≤ length rows.new }
+pub fn fill_rows(input: &mut impl Read, rows: &mut [u64], count: usize) -> io::Result<usize>
+    ensures in_bounds { IfOk result (λ n. n ≤ length rows.new) }
+    ensures kept { OnErr result (rows.new ≡ rows.old) }
 {
     if 80 < count {
-        return 0;
+        return Ok(0);
     }
     if rows.len() < count {
-        return 0;
+        return Ok(0);
     }
     let mut bytes = row_bytes();
-    if fill(&mut bytes, 8 * count) < 8 * count {
-        return 0;
+    if fill(input, &mut bytes, 8 * count)? < 8 * count {
+        return Ok(0);
     }
     set_rows(rows, &bytes, count);
-    count
+    Ok(count)
 }
 
 // Sets the first count ids from their bytes.
 fn set_ids(ids: &mut [u16], bytes: &[u8], count: usize)
-    requires { (count ≤ length ids.old) × (count ≤ 96) }
+    requires in_bounds { count ≤ length ids.old }
+    requires few { count ≤ 96 }
 {
-    let mut k: usize = 0;
-    while k < count {
+    for k in 0..count {
         ids[k] = two_bytes(bytes, 2 * k) as u16;
-        k += 1;
     }
 }
 
 // Reads count ids to the start of a room and answers how many came: none where the stream or the room ends before.
-pub fn fill_ids(ids: &mut [u16], count: usize) -> usize
-    ensures { result ≤ length ids.new }
+pub fn fill_ids(input: &mut impl Read, ids: &mut [u16], count: usize) -> io::Result<usize>
+    ensures in_bounds { IfOk result (λ n. n ≤ length ids.new) }
+    ensures kept { OnErr result (ids.new ≡ ids.old) }
 {
     if 96 < count {
-        return 0;
+        return Ok(0);
     }
     if ids.len() < count {
-        return 0;
+        return Ok(0);
     }
     let mut bytes = row_bytes();
-    if fill(&mut bytes, 2 * count) < 2 * count {
-        return 0;
+    if fill(input, &mut bytes, 2 * count)? < 2 * count {
+        return Ok(0);
     }
     set_ids(ids, &bytes, count);
-    count
+    Ok(count)
 }
 
 // The signed number that these bits say.
@@ -153,30 +155,29 @@ fn signed_of(bits: u64) -> i64 {
 
 // Sets the first count figures from their bytes.
 fn set_figures(figures: &mut [i64], bytes: &[u8], count: usize)
-    requires { (count ≤ length figures.old) × (count ≤ 80) }
+    requires in_bounds { count ≤ length figures.old }
+    requires few { count ≤ 80 }
 {
-    let mut k: usize = 0;
-    while k < count {
-        let figure = signed_of(eight_bytes(bytes, 8 * k));
-        figures[k] = figure;
-        k += 1;
+    for k in 0..count {
+        figures[k] = signed_of(eight_bytes(bytes, 8 * k));
     }
 }
 
 // Reads count figures to the start of a room and answers how many came: none where the stream or the room ends before.
-pub fn fill_figures(figures: &mut [i64], count: usize) -> usize
-    ensures { result ≤ length figures.new }
+pub fn fill_figures(input: &mut impl Read, figures: &mut [i64], count: usize) -> io::Result<usize>
+    ensures in_bounds { IfOk result (λ n. n ≤ length figures.new) }
+    ensures kept { OnErr result (figures.new ≡ figures.old) }
 {
     if 80 < count {
-        return 0;
+        return Ok(0);
     }
     if figures.len() < count {
-        return 0;
+        return Ok(0);
     }
     let mut bytes = row_bytes();
-    if fill(&mut bytes, 8 * count) < 8 * count {
-        return 0;
+    if fill(input, &mut bytes, 8 * count)? < 8 * count {
+        return Ok(0);
     }
     set_figures(figures, &bytes, count);
-    count
+    Ok(count)
 }

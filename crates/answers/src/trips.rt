@@ -3,6 +3,8 @@ use crate::patches::Lent;
 use crate::{digest, print, reverses, runs, space};
 use reverse::call::reverse_patch;
 use rules::Reversed;
+use std::io;
+use std::io::Read;
 
 // The steps of a round trip, and those that are left when the reverse is put to what stands.
 const ALL_STEPS: u32 = 3;
@@ -10,15 +12,16 @@ const ALL_STEPS: u32 = 3;
 const AT_REVERSE: u32 = 2;
 
 // Prints a bar, the numbers of the reverse call and the digest of what it made.
-fn print_made(made: Reversed, reverse: &[u8]) {
-    print::bar();
-    reverses::print_reversed(made);
-    print::number(digest::of_bytes(reverse));
+fn print_made(out: &impl Print, made: Reversed, reverse: &[u8]) -> io::Result<()> {
+    print::bar(out)?;
+    reverses::print_reversed(out, made)?;
+    print::number(out, digest::of_bytes(reverse))
 }
 
 // Prints what stands and answers the steps that are left, each on what the last accepted one left, or says that the stream
 // lends too much. The next patch and the other take turns.
 fn answer_steps(
+    out: &impl Print,
     left: u32,
     base: &[u8],
     base_map: &[u64],
@@ -26,17 +29,18 @@ fn answer_steps(
     other: &[u8],
     made: Reversed,
     lent: Lent,
-) -> bool {
-    runs::print_standing(base, base_map);
+) -> io::Result<bool> {
+    runs::print_standing(out, base, base_map)?;
     if left == 0 {
-        return true;
+        return Ok(true);
     }
     if left == AT_REVERSE {
-        print_made(made, next);
+        print_made(out, made, next)?;
     }
     let mut room = space::room();
     let mut new_map = space::full_rows();
     let taken = runs::put_step(
+        out,
         base,
         base_map,
         next,
@@ -44,75 +48,94 @@ fn answer_steps(
         lent.new_rows,
         &mut room,
         &mut new_map,
-    );
+    )?;
     if !taken.is_read {
-        return false;
+        return Ok(false);
     }
-    if !taken.is_accepted {
-        return answer_steps(left - 1, base, base_map, other, next, made, lent);
+    let (standing, map) = if taken.is_accepted {
+        (&room[..taken.length], &new_map[..taken.rows])
+    } else {
+        (base, base_map)
+    };
+    answer_steps(out, left - 1, standing, map, other, next, made, lent)
+}
+
+// Makes the reverse in the space for it and answers the round trip, or says that the stream lends too much.
+fn answer_trip(
+    out: &impl Print,
+    image: &[u8],
+    map: &[u64],
+    patch: &[u8],
+    lent: Lent,
+    reverse: &mut [u8],
+) -> io::Result<bool> {
+    let made = reverse_patch(patch, reverse);
+    let length = made.length as usize;
+    if reverse.len() < length {
+        return Ok(false);
     }
-    let length = taken.length;
-    let rows = taken.rows;
     answer_steps(
-        left - 1,
-        &room[..length],
-        &new_map[..rows],
-        other,
-        next,
+        out,
+        ALL_STEPS,
+        image,
+        map,
+        patch,
+        &reverse[..length],
         made,
         lent,
     )
 }
 
-// Makes the reverse in the space for it and answers the round trip, or says that the stream lends too much.
-fn answer_trip(image: &[u8], map: &[u64], patch: &[u8], lent: Lent, reverse: &mut [u8]) -> bool {
-    let made = reverse_patch(patch, reverse);
-    let length = made.length as usize;
-    if reverse.len() < length {
-        return false;
-    }
-    answer_steps(ALL_STEPS, image, map, patch, &reverse[..length], made, lent)
-}
-
 // Reads table, patch and map into the spaces and answers the round trip, or says that the stream is broken.
 fn answer_in(
+    input: &mut impl Read,
+    out: &impl Print,
     lent: Lent,
     image: &mut [u8],
     patch: &mut [u8],
     map: &mut [u64],
     reverse: &mut [u8],
-) -> bool {
+) -> io::Result<bool> {
     let image_bytes = lent.image_bytes;
     let patch_bytes = lent.patch_bytes;
     let base_rows = lent.base_rows;
-    if space::fill(image, image_bytes) < image_bytes {
-        return false;
+    if space::fill(input, image, image_bytes)? < image_bytes {
+        return Ok(false);
     }
-    if space::fill(patch, patch_bytes) < patch_bytes {
-        return false;
+    if space::fill(input, patch, patch_bytes)? < patch_bytes {
+        return Ok(false);
     }
-    if space::fill_rows(map, base_rows) < base_rows {
-        return false;
+    if space::fill_rows(input, map, base_rows)? < base_rows {
+        return Ok(false);
     }
-    print::letter(b'U');
+    print::letter(out, b'U')?;
     if !answer_trip(
+        out,
         &image[..image_bytes],
         &map[..base_rows],
         &patch[..patch_bytes],
         lent,
         reverse,
-    ) {
-        return false;
+    )? {
+        return Ok(false);
     }
-    print::line_end();
-    true
+    print::line_end(out)?;
+    Ok(true)
 }
 
 // Answers one case, or says that the stream is broken.
-pub fn answer(lent: Lent) -> bool {
+pub fn answer(input: &mut impl Read, out: &impl Print, lent: Lent) -> io::Result<bool> {
     let mut image = space::image();
     let mut patch = space::image();
     let mut map = space::rows();
     let mut reverse = space::image();
-    answer_in(lent, &mut image, &mut patch, &mut map, &mut reverse)
+    answer_in(
+        input,
+        out,
+        lent,
+        &mut image,
+        &mut patch,
+        &mut map,
+        &mut reverse,
+    )
 }

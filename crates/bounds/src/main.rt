@@ -5,12 +5,15 @@
 
 mod print;
 
-fn main() {
+use std::io;
+
+fn main(rt: HostRuntime) -> io::Result<()> {
     let mut space = console::input::space();
     let mut rows = [0u64; 64];
     let mut ids = [0u16; 64];
-    let worked = console::worked::work_out(&mut space, &mut rows, &mut ids);
+    let worked = console::worked::work_out(&mut rt.stdin(), &rt, &mut space, &mut rows, &mut ids)?;
     if worked.bounds.number == 0 {
-        print::found(worked.bounds, &ids);
+        print::found(&rt, worked.bounds, &ids)?;
     }
+    Ok(())
 }

@@ -1,36 +1,33 @@
 // The lines that the program prints.
 use console::print::{number, text};
 use rules::Bounds;
+use std::io;
 
 // A line with a name and a number.
-fn line(name: &[u8], value: u32) {
-    text(name);
-    number(value);
-    text(b"\n");
+fn line(out: &impl Print, name: &[u8], value: u32) -> io::Result<()> {
+    text(out, name)?;
+    number(out, value)?;
+    text(out, b"\n")
 }
 
 // The first count ids, each behind a space.
-fn chain_ids(ids: &[u16], count: usize) {
-    let mut k: usize = 0;
-    while k < count {
-        if k < ids.len() {
-            text(b" ");
-            let id = ids[k];
-            number(id as u32);
-        }
-        k += 1;
+fn chain_ids(out: &impl Print, ids: &[u16], count: usize) -> io::Result<()> {
+    for id in ids.iter().take(count) {
+        text(out, b" ")?;
+        number(out, *id as u32)?;
     }
+    Ok(())
 }
 
 // The number of tasks, the chain bound and its ids, and the three other bounds.
-pub fn found(bounds: Bounds, ids: &[u16]) {
-    line(b"tasks ", bounds.tasks);
-    text(b"chain ");
-    number(bounds.chain);
-    text(b":");
-    chain_ids(ids, bounds.length as usize);
-    text(b"\n");
-    line(b"path ", bounds.path);
-    line(b"transactions ", bounds.transactions);
-    line(b"levels ", bounds.levels);
+pub fn found(out: &impl Print, bounds: Bounds, ids: &[u16]) -> io::Result<()> {
+    line(out, b"tasks ", bounds.tasks)?;
+    text(out, b"chain ")?;
+    number(out, bounds.chain)?;
+    text(out, b":")?;
+    chain_ids(out, ids, bounds.length as usize)?;
+    text(out, b"\n")?;
+    line(out, b"path ", bounds.path)?;
+    line(out, b"transactions ", bounds.transactions)?;
+    line(out, b"levels ", bounds.levels)
 }

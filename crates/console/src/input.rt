@@ -1,10 +1,10 @@
 // Reading the table image from standard input.
-ghost use Rattle.std.specs.Prelude.{◌≡◌, ◌≤◌, length};
+ghost use Rattle.std.specs.Prelude.{◌≡◌, ◌≤◌, ◌<◌, IfOk, IfSome, OnOk, length, take};
+ghost use Rattle.std.specs.Io.KnownBytes.{Consumes, IsAtEnd, ReadConsumes};
+ghost use Rattle.std.specs.Io.{ReadsAtMost};
 
-use libc::STDIN_FILENO;
-
-// More reads than any input takes.
-const MOST_READS: u32 = 4_000_000_000;
+use std::io;
+use std::io::{ErrorKind, Read};
 
 // Room for the longest table image and one byte more, so that a longer input is seen to be too long.
 pub fn space() -> [u8; 11_777]
@@ -14,24 +14,58 @@ pub fn space() -> [u8; 11_777]
 }
 
 // Reads what is left of the input, which is too long to be a table, so that whoever writes it can finish.
-fn drain() {
-    let mut space = io::large_buffer();
-    let mut left = MOST_READS;
-    while 0 < left {
-        if io::read_full(STDIN_FILENO, &mut space) == 0 {
-            return;
-        }
-        left -= 1;
-    }
+fn drain<R: Read>(input: &mut R) -> io::Result<()>
+    ensures { OnOk result (IsAtEnd (R.remaining input.new)) }
+{
+    io::copy(input, &mut io::sink())?;
+    Ok(())
 }
 
-// Reads the input to the start of the space, in whatever pieces it comes, and answers how many bytes there are.
-pub fn read(space: &mut [u8]) -> usize
-    ensures { result ≤ length space.new }
+// One read, tried again where a signal interrupts it.
+fn read_some<R: Read>(input: &mut R, space: &mut [u8]) -> io::Result<usize>
+    ensures length_in_bounds { ReadsAtMost result space.new }
+    ensures bytes { ReadConsumes (R.remaining input.old) (R.remaining input.new) result space.new }
 {
-    let length = io::read_full(STDIN_FILENO, space);
-    if length == space.len() {
-        drain();
+    for _ in 0..u64::MAX {
+        match input.read(space) {
+            Ok(length) => return Ok(length),
+            Err(error) => {
+                if error.kind() != ErrorKind::Interrupted {
+                    return Err(error);
+                }
+            }
+        }
     }
-    length
+    Err(io::Error::from(ErrorKind::Interrupted))
+}
+
+// Reads until the space is full or the input ends, and answers how many bytes there are. An error leaves some of them in the space,
+// and their number is lost.
+pub fn read_full<R: Read>(input: &mut R, space: &mut [u8]) -> io::Result<usize>
+    ensures length_in_bounds { IfOk result (λ n. n ≤ length space.new) }
+    ensures bytes { IfOk result (λ n. Consumes (R.remaining input.old) (R.remaining input.new) (take n space.new)) }
+    ensures end { IfOk result (λ n. n < length space.new → IsAtEnd (R.remaining input.new)) }
+{
+    let mut done = 0;
+    while done < space.len() {
+        let got = read_some(input, &mut space[done..])?;
+        if got == 0 {
+            break;
+        }
+        done += got;
+    }
+    Ok(done)
+}
+
+// Reads the input to its end, in whatever pieces it comes, and answers how many of its bytes stand at the start of the space.
+pub fn read<R: Read>(input: &mut R, space: &mut [u8]) -> io::Result<usize>
+    ensures length_in_bounds { IfOk result (λ n. n ≤ length space.new) }
+    ensures bytes { IfOk result (λ n. IfSome (R.remaining input.old) (λ bytes. take n space.new ≡ take (length space.new) bytes)) }
+    ensures end { OnOk result (IsAtEnd (R.remaining input.new)) }
+{
+    let length = read_full(input, space)?;
+    if length == space.len() {
+        drain(input)?;
+    }
+    Ok(length)
 }

@@ -1,19 +1,19 @@
-// The parts of a printed line.
-use libc::STDOUT_FILENO;
+// The parts of a printed line. An error leaves what was written before it.
+use std::io;
 
-pub fn text(bytes: &[u8]) {
-    io::write_all(STDOUT_FILENO, bytes);
+pub fn text(out: &impl Print, bytes: &[u8]) -> io::Result<()> {
+    out.write_all(bytes)
 }
 
-pub fn number(value: u32) {
-    io::print_decimal(STDOUT_FILENO, value as u64);
+pub fn number(out: &impl Print, value: u32) -> io::Result<()> {
+    out.print(value)
 }
 
 // The refusal alone.
-pub fn refusal(number_refused: u32, place: u32) {
-    text(b"refused ");
-    number(number_refused);
-    text(b" at ");
-    number(place);
-    text(b"\n");
+pub fn refusal(out: &impl Print, number_refused: u32, place: u32) -> io::Result<()> {
+    text(out, b"refused ")?;
+    number(out, number_refused)?;
+    text(out, b" at ")?;
+    number(out, place)?;
+    text(out, b"\n")
 }

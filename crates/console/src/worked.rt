@@ -1,5 +1,6 @@
 // The bounds of the table image that standard input holds.
-ghost use Rattle.std.specs.Prelude.{◌≡◌, ◌≤◌, length, take};
+ghost use Rattle.std.specs.Prelude.{◌≡◌, ◌≤◌, IfOk, IfSome, OnOk, length, take};
+ghost use Rattle.std.specs.Io.KnownBytes.{IsAtEnd};
 ghost use Rattle.rules.specs.Calls.{map_after, BoundCall};
 
 use crate::input::read;
@@ -7,6 +8,8 @@ use crate::print;
 use preempt::map::fill_map;
 use rules::Bounds;
 use stack::call::find_bounds;
+use std::io;
+use std::io::Read;
 
 // How many bytes were read, and what the bound call answers to them.
 #[derive(Drop)]
@@ -24,16 +27,25 @@ fn own_bounds(image: &[u8], rows: &mut [u64], ids: &mut [u16]) -> Bounds
     find_bounds(image, rows, ids)
 }
 
-// Reads the input into the space and finds its bounds over its own map, with the chain in the ids. A refusal is printed.
-pub fn work_out(space: &mut [u8], rows: &mut [u64], ids: &mut [u16]) -> Worked
-    ensures length_in_bounds { result.length ≤ length space.new }
-    ensures rows_after { rows.new ≡ map_after (take result.length space.new) rows.old }
-    ensures bound_call { BoundCall (take result.length space.new) rows.new ids.old result.bounds ids.new }
+// Reads the input into the space and finds its bounds over its own map, with the chain in the ids. A refusal is printed. An error
+// of reading leaves rows and ids as they were, and one of printing leaves the answer in them.
+pub fn work_out<R: Read>(
+    input: &mut R,
+    out: &impl Print,
+    space: &mut [u8],
+    rows: &mut [u64],
+    ids: &mut [u16],
+) -> io::Result<Worked>
+    ensures length_in_bounds { IfOk result (λ worked. worked.length ≤ length space.new) }
+    ensures bytes { IfOk result (λ worked. IfSome (R.remaining input.old) (λ bytes. take worked.length space.new ≡ take (length space.new) bytes)) }
+    ensures end { OnOk result (IsAtEnd (R.remaining input.new)) }
+    ensures rows_after { IfOk result (λ worked. rows.new ≡ map_after (take worked.length space.new) rows.old) }
+    ensures bound_call { IfOk result (λ worked. BoundCall (take worked.length space.new) rows.new ids.old worked.bounds ids.new) }
 {
-    let length = read(space);
+    let length = read(input, space)?;
     let bounds = own_bounds(&space[..length], rows, ids);
     if bounds.number != 0 {
-        print::refusal(bounds.number, bounds.place);
+        print::refusal(out, bounds.number, bounds.place)?;
     }
-    Worked { length, bounds }
+    Ok(Worked { length, bounds })
 }

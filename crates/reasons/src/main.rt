@@ -5,13 +5,16 @@
 
 mod print;
 
-fn main() {
+use std::io;
+
+fn main(rt: HostRuntime) -> io::Result<()> {
     let mut space = console::input::space();
     let mut rows = [0u64; 64];
     let mut ids = [0u16; 64];
-    let worked = console::worked::work_out(&mut space, &mut rows, &mut ids);
+    let worked = console::worked::work_out(&mut rt.stdin(), &rt, &mut space, &mut rows, &mut ids)?;
     if worked.bounds.number == 0 {
         let length = worked.length;
-        print::neighbours(&space[..length], &ids, worked.bounds.length as usize);
+        print::neighbours(&rt, &space[..length], &ids, worked.bounds.length as usize)?;
     }
+    Ok(())
 }

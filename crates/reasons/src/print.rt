@@ -10,49 +10,57 @@ use preempt::tasks::task_place;
 use reason::places::reason_at;
 use reason::told::write_word;
 use rules::Reason;
+use std::io;
 use table::judge_table;
 
 // A line with two ids, and the word for why the first may be preempted by the second.
-fn line(low: u16, high: u16, reason: Reason) {
-    number(low as u32);
-    text(b" ");
-    number(high as u32);
-    text(b" ");
+fn line(out: &impl Print, low: u16, high: u16, reason: Reason) -> io::Result<()> {
+    number(out, low as u32)?;
+    text(out, b" ")?;
+    number(out, high as u32)?;
+    text(out, b" ")?;
     let mut word = [0u8; 11];
     let length = write_word(reason, &mut word);
-    text(&word[..length]);
-    text(b"\n");
+    text(out, &word[..length])?;
+    text(out, b"\n")
 }
 
 // A line for each two neighbours among the first count ids, which are of tasks of an accepted table. The rows of before say which of
 // its tasks come before which.
-fn pair_lines(image: &[u8], before: &[u64; 64], ids: &[u16], count: usize)
+fn pair_lines(
+    out: &impl Print,
+    image: &[u8],
+    before: &[u64; 64],
+    ids: &[u16],
+    count: usize,
+) -> io::Result<()>
     requires image_value { accepted (table_verdict image.now) ≡ true }
     requires before_value { before.now ≡ before_map (records image.now) }
-    requires count_in_bounds { (count ≤ length ids.now) × ((k : ℕ) → k < count → listed (tasks (records image.now)) (get_or ids.now k 0) ≡ true) }
+    requires count_in_bounds { count ≤ length ids.now }
+    requires all_listed { (k : ℕ) → k < count → listed (tasks (records image.now)) (get_or ids.now k 0) ≡ true }
 {
     if count == 0 {
-        return;
+        return Ok(());
     }
     let mut low = ids[0];
     let mut place = task_place(image, low as u32);
-    let mut k: usize = 1;
-    while k < count {
+    for k in 1..count {
         let high = ids[k];
         let next = task_place(image, high as u32);
-        line(low, high, reason_at(image, before, place, next));
+        line(out, low, high, reason_at(image, before, place, next))?;
         low = high;
         place = next;
-        k += 1;
     }
+    Ok(())
 }
 
 // The same, with those rows worked out once for all lines.
-pub fn neighbours(image: &[u8], ids: &[u16], count: usize)
+pub fn neighbours(out: &impl Print, image: &[u8], ids: &[u16], count: usize) -> io::Result<()>
     requires image_value { accepted (table_verdict image.now) ≡ true }
-    requires count_in_bounds { (count ≤ length ids.now) × ((k : ℕ) → k < count → listed (tasks (records image.now)) (get_or ids.now k 0) ≡ true) }
+    requires count_in_bounds { count ≤ length ids.now }
+    requires all_listed { (k : ℕ) → k < count → listed (tasks (records image.now)) (get_or ids.now k 0) ≡ true }
 {
     let mut before = [0u64; 64];
     judge_table(image, &mut before);
-    pair_lines(image, &before, ids, count);
+    pair_lines(out, image, &before, ids, count)
 }

@@ -2,6 +2,8 @@
 ghost use Rattle.std.specs.Prelude.{◌≡◌, ◌≤◌};
 ghost use Rattle.room.specs.Digits.{is_digit, if_reserve, with_digit, said};
 
+use std::env::{Env, FillError};
+
 // What stands for no reserve, and is one more than the largest.
 pub const NONE: u64 = 4_294_967_296;
 
@@ -38,29 +40,33 @@ fn with_digit(number: u64, byte: u8) -> u64
 
 // The number that the digits say, or NONE where one of them is no digit or the number is no reserve.
 fn number_of(digits: &[u8]) -> u64
-    ensures { (result ≡ said digits.now) × (result ≤ 4294967296) }
+    ensures value { result ≡ said digits.now }
+    ensures in_bounds { result ≤ 4294967296 }
 {
     let mut number: u64 = 0;
-    let mut k: usize = 0;
-    while k < digits.len() {
-        number = with_digit(number, digits[k]);
-        k += 1;
+    for digit in digits {
+        number = with_digit(number, *digit);
     }
     number
 }
 
+// Whether the program was given one argument behind its name.
+fn is_one_given(env: &impl Env) -> bool {
+    matches!(env.arg(2, &mut []), Err(FillError::NotPresent))
+}
+
 // The reserve, or NONE where there is not one argument behind the program's name, or it is not 1 to 32 decimal digits that
 // say a number up to the largest reserve.
-pub fn reserve() -> u64
+pub fn reserve(env: &impl Env) -> u64
     ensures { result ≤ 4294967296 }
 {
-    if os::arg_count() != 2 {
+    if !is_one_given(env) {
         return NONE;
     }
     let mut word = [0u8; 32];
-    let length = os::arg(1, &mut word);
-    if length == 0 {
-        return NONE;
+    match env.arg(1, &mut word) {
+        Ok(0) => NONE,
+        Ok(length) => number_of(&word[..length]),
+        Err(_) => NONE,
     }
-    number_of(&word[..length])
 }

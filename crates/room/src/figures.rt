@@ -6,6 +6,7 @@ use crate::print::task_lines;
 use console::print::refusal;
 use preempt::map::fill_map;
 use rules::Verdict;
+use std::io;
 use through::call::room_left;
 
 // Works out what each task has left over the table's own map, which is left in the rows.
@@ -18,13 +19,12 @@ fn work_out(image: &[u8], reserve: u32, rows: &mut [u64], room: &mut [i64]) -> V
 }
 
 // Prints a line for each task of a table image, or the refusal.
-pub fn report(image: &[u8], reserve: u32) {
+pub fn report(out: &impl Print, image: &[u8], reserve: u32) -> io::Result<()> {
     let mut rows = [0u64; 64];
     let mut room = [0i64; 64];
     let verdict = work_out(image, reserve, &mut rows, &mut room);
     if verdict.number != 0 {
-        refusal(verdict.number, verdict.place);
-        return;
+        return refusal(out, verdict.number, verdict.place);
     }
-    task_lines(image, &room);
+    task_lines(out, image, &room)
 }

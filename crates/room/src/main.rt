@@ -7,13 +7,14 @@ mod argument;
 mod figures;
 mod print;
 
-fn main() {
-    let reserve = argument::reserve();
+use std::io;
+
+fn main(rt: HostRuntime) -> io::Result<()> {
+    let reserve = argument::reserve(&rt);
     if reserve == argument::NONE {
-        print::usage();
-        return;
+        return print::usage(&rt);
     }
     let mut space = console::input::space();
-    let length = console::input::read(&mut space);
-    figures::report(&space[..length], reserve as u32);
+    let length = console::input::read(&mut rt.stdin(), &mut space)?;
+    figures::report(&rt, &space[..length], reserve as u32)
 }

@@ -3,16 +3,13 @@ ghost use Rattle.std.specs.Prelude.{◌≡◌, true, ◌≤◌, nat_abs, length}
 ghost use Rattle.rules.specs.Refusals.{accepted, table_verdict};
 
 use console::print::{number, text};
-use libc::{STDERR_FILENO, STDOUT_FILENO};
 use preempt::columns::{IDS, column_of};
 use preempt::tasks::read_tasks;
+use std::io;
 
 // What the reserve has to be.
-pub fn usage() {
-    io::write_all(
-        STDERR_FILENO,
-        b"room: the reserve is one number from 0 to 4294967295\n",
-    );
+pub fn usage(err: &impl Eprint) -> io::Result<()> {
+    eprintln!(err; "room: the reserve is one number from 0 to 4294967295")
 }
 
 // How far a figure is from 0.
@@ -26,32 +23,31 @@ fn distance_from_zero(figure: i64) -> u64
 }
 
 // A line with an id and a signed figure.
-fn line(id: u32, figure: i64) {
-    number(id);
-    text(b" ");
+fn line(out: &impl Print, id: u32, figure: i64) -> io::Result<()> {
+    number(out, id)?;
+    text(out, b" ")?;
     if figure < 0 {
-        text(b"-");
+        text(out, b"-")?;
     }
-    io::print_decimal(STDOUT_FILENO, distance_from_zero(figure));
-    text(b"\n");
+    out.println(distance_from_zero(figure))
 }
 
 // A line for each of the first ids, with the figure of its place.
-fn lines(ids: &[u32], figures: &[i64], count: usize)
-    requires { (count ≤ length ids.now) × (count ≤ length figures.now) }
+fn lines(out: &impl Print, ids: &[u32], figures: &[i64], count: usize) -> io::Result<()>
+    requires ids_in_bounds { count ≤ length ids.now }
+    requires figures_in_bounds { count ≤ length figures.now }
 {
-    let mut place: usize = 0;
-    while place < count {
-        line(ids[place], figures[place]);
-        place += 1;
+    for place in 0..count {
+        line(out, ids[place], figures[place])?;
     }
+    Ok(())
 }
 
 // A line for each task of an accepted table, with the figure of its place.
-pub fn task_lines(image: &[u8], figures: &[i64])
+pub fn task_lines(out: &impl Print, image: &[u8], figures: &[i64]) -> io::Result<()>
     requires image_value { accepted (table_verdict image.now) ≡ true }
     requires in_bounds { 64 ≤ length figures.now }
 {
     let tasks = read_tasks(image);
-    lines(column_of(&tasks.columns, IDS), figures, tasks.count);
+    lines(out, column_of(&tasks.columns, IDS), figures, tasks.count)
 }
