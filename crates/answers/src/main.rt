@@ -6,6 +6,7 @@
 mod bounds;
 mod digest;
 mod growth;
+mod limits;
 mod maps;
 mod patches;
 mod print;
@@ -35,6 +36,7 @@ fn answer_next(input: &mut impl Read, out: &impl Print) -> io::Result<bool> {
     let patch_bytes = four_bytes(&header, 8) as usize;
     let read_rows = four_bytes(&header, 12) as usize;
     let written_rows = four_bytes(&header, 16) as usize;
+    let id_count = four_bytes(&header, 20) as usize;
     let room_bytes = four_bytes(&header, 24) as usize;
     let lent = Lent {
         image_bytes,
@@ -48,8 +50,8 @@ fn answer_next(input: &mut impl Read, out: &impl Print) -> io::Result<bool> {
         b'T' => verdicts::answer(input, out, b'T', image_bytes),
         b'P' => verdicts::answer(input, out, b'P', image_bytes),
         b'M' => maps::answer(input, out, image_bytes, written_rows),
-        b'B' => bounds::answer(input, out, b'B', bounds::asked_by(&header)),
-        b'H' => bounds::answer(input, out, b'H', bounds::asked_by(&header)),
+        b'B' => bounds::answer(input, out, image_bytes, read_rows, id_count),
+        b'H' => limits::answer(input, out, limits::asked_by(&header)),
         b'A' => patches::answer(input, out, lent),
         b'V' => reverses::answer(input, out, image_bytes, room_bytes),
         b'U' => trips::answer(input, out, lent),

@@ -1,1 +1,2 @@
+mod Distance
 mod Digits
