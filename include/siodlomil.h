@@ -13,15 +13,15 @@
  * - A call takes stack, at most so many bytes of it, as tools/stack-use reads off the two archives:
  *
  *                             x86-64       Arm
- *     siodlomil_map              6,328     6,368
- *     siodlomil_bounds          47,928    44,592
- *     siodlomil_bounds_within   48,488    46,272
- *     siodlomil_room_left       47,448    44,368
- *     siodlomil_chain_through   46,952    43,840
- *     siodlomil_reason           1,680     1,520
- *     siodlomil_patch           37,912    37,936
- *     siodlomil_reverse         21,792    21,776
- *     siodlomil_offending        1,696     1,568
+ *     siodlomil_map              6,296     6,304
+ *     siodlomil_bounds          35,208    33,120
+ *     siodlomil_bounds_within   45,768    44,752
+ *     siodlomil_room_left       33,768    31,792
+ *     siodlomil_chain_through   33,048    30,976
+ *     siodlomil_reason           1,584     1,424
+ *     siodlomil_patch           41,464    41,504
+ *     siodlomil_reverse         21,760    21,712
+ *     siodlomil_offending        1,552     1,424
  *
  *   To that come what memcpy and memset use and up to 160 bytes: arguments that have no register, and on Arm an inline
  *   function at the end of this header where a compiler does not put it in line.

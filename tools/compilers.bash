@@ -11,7 +11,7 @@ choose_target() {
   link=(-static)
   case $1 in
     "$own_target") compiler=gcc link=() runner=() packages=(gcc libc6-dev) ;;
-    x86-64-linux) compiler=x86_64-linux-gnu-gcc runner=("$kit_emulator") packages=(gcc-x86-64-linux-gnu libc6-dev-amd64-cross) ;;
+    x86-64-linux) compiler=x86_64-linux-gnu-gcc runner=(qemu-x86_64) packages=(gcc-x86-64-linux-gnu libc6-dev-amd64-cross qemu-user) ;;
     aarch64-linux) compiler=aarch64-linux-gnu-gcc runner=(qemu-aarch64) packages=(gcc-aarch64-linux-gnu libc6-dev-arm64-cross qemu-user) ;;
   esac
 }

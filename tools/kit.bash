@@ -1,16 +1,12 @@
-# Sourced by the scripts of this repository: where the kit is, found as rt finds it, and what it has for this machine.
+# Sourced by the scripts of this repository: where the kit is, as the one whose rt is called, and what it has for this machine.
 machine=$(uname -m)
-kit=${RATTLE_HOME:-$(dirname "$(dirname "$(readlink -f "$(command -v rt)")")")}
-toolchain=$kit/on/$machine/toolchain
+kit=$(dirname "$(dirname "$(readlink -f "$(command -v rt)")")")
+toolchain=$kit/toolchain
 clang=$toolchain/bin/clang
-
-# The kit's emulator of x86-64, or nothing on a machine that needs none.
-kit_emulator=$toolchain/bin/qemu-x86_64
-[ -x "$kit_emulator" ] || kit_emulator=
 
 # One sum over the kit, all sources, the scripts that build from them, and these files: state FILE...
 state() {
-  (cd "$root" && cat "$kit/KIT-ID" && find crates.txt crates tools/{kit.bash,compilers.bash,module,run} "$@" -type f -print0 | LC_ALL=C sort -z | xargs -0 sha256sum) | sha256sum
+  (cd "$root" && cat "$kit/KIT-ID" && find crates.txt crates tools/{kit.bash,compilers.bash,module,run,arm_calls.c} "$@" -path 'crates/*/out' -prune -o -type f -print0 | LC_ALL=C sort -z | xargs -0 sha256sum) | sha256sum
 }
 
 # Keeps the sum over these files, unless the sources are no longer those that this sum was taken of: keep_state STATE-FILE
@@ -33,3 +29,18 @@ is_current() {
 
 # Whether the kit's compiler has a target: has_target NAME
 has_target() { "$clang" --print-targets | awk '{ print $1 }' | grep -qx "$1"; }
+
+# Compiles a module that tools/module wrote as the kit does, which has its compiler leave out what is known to go wrong:
+# compile_module MODULE OBJECT WORD..., the words those for a target
+compile_module() {
+  local word words=()
+  for word in trap-unreachable no-trap-after-noreturn no-x86-call-frame-opt disable-machine-licm disable-postra-machine-licm \
+    sink-common-insts=false; do words+=(-mllvm "-$word"); done
+  "$clang" "${@:3}" -ffunction-sections -fdata-sections "${words[@]}" --no-default-config -no-canonical-prefixes \
+    -fintegrated-cc1 -Wno-override-module -Werror -O3 -c -x ir "$1" -o "$2"
+}
+
+# The words for each target. Android keeps register 18 for itself, and code that leaves it alone runs on every Arm Linux.
+words_for_x86_64=(--target=x86_64-unknown-linux-gnu -march=x86-64 -fPIC)
+words_for_arm=(--target=aarch64-unknown-linux-gnu -march=armv8-a -ffixed-x18 -mllvm -aarch64-load-store-renaming=false -fPIC)
+words_for_wasm=(--target=wasm32-unknown-unknown -mcpu=lime1 -mllvm -expand-div-rem-bits=64 -mllvm -expand-fp-convert-bits=64)
