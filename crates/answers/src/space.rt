@@ -70,7 +70,8 @@ fn row_bytes() -> [u8; 640]
 // Reads count bytes to the start of the space and answers how many came: fewer where the stream ends before, and none
 // where the space is too short.
 pub fn fill(input: &mut impl Read, space: &mut [u8], count: usize) -> io::Result<usize>
-    ensures { IfOk result (λ n. n ≤ length space.new) }
+    ensures in_bounds { IfOk result (λ n. n ≤ length space.new) }
+    ensures err { OnErr result (length space.new ≡ length space.old) }
 {
     if space.len() < count {
         return Ok(0);

@@ -1,5 +1,5 @@
 // Reading the table image from standard input.
-ghost use Rattle.std.specs.Prelude.{◌≡◌, ◌≤◌, ◌<◌, IfOk, IfSome, OnOk, length, take};
+ghost use Rattle.std.specs.Prelude.{◌≡◌, ◌≤◌, ◌<◌, IfOk, IfSome, OnOk, OnErr, length, take};
 ghost use Rattle.std.specs.Io.KnownBytes.{Consumes, IsAtEnd, ReadConsumes};
 ghost use Rattle.std.specs.Io.{ReadsAtMost};
 
@@ -45,6 +45,7 @@ pub fn read_full<R: Read>(input: &mut R, space: &mut [u8]) -> io::Result<usize>
     ensures length_in_bounds { IfOk result (λ n. n ≤ length space.new) }
     ensures bytes { IfOk result (λ n. Consumes (R.remaining input.old) (R.remaining input.new) (take n space.new)) }
     ensures end { IfOk result (λ n. n < length space.new → IsAtEnd (R.remaining input.new)) }
+    ensures err { OnErr result (length space.new ≡ length space.old) }
 {
     let mut done = 0;
     while done < space.len() {
@@ -62,6 +63,7 @@ pub fn read<R: Read>(input: &mut R, space: &mut [u8]) -> io::Result<usize>
     ensures length_in_bounds { IfOk result (λ n. n ≤ length space.new) }
     ensures bytes { IfOk result (λ n. IfSome (R.remaining input.old) (λ bytes. take n space.new ≡ take (length space.new) bytes)) }
     ensures end { OnOk result (IsAtEnd (R.remaining input.new)) }
+    ensures err { OnErr result (length space.new ≡ length space.old) }
 {
     let length = read_full(input, space)?;
     if length == space.len() {

@@ -1,6 +1,8 @@
 // The bounds of the table image that standard input holds.
-ghost use Rattle.std.specs.Prelude.{◌≡◌, ◌≤◌, IfOk, IfSome, OnOk, length, take};
+ghost use Rattle.std.specs.Prelude.{◌≡◌, ◌≤◌, ℕ, IfOk, IfSome, OnOk, OnErr, length, take};
 ghost use Rattle.std.specs.Io.KnownBytes.{IsAtEnd};
+ghost use Rattle.std.proofs.Math.Logic.{◌⊎◌};
+ghost use Rattle.rules.specs.declared.Bounds.{Bounds};
 ghost use Rattle.rules.specs.Calls.{map_after, BoundCall};
 
 use crate::input::read;
@@ -41,6 +43,7 @@ pub fn work_out<R: Read>(
     ensures end { OnOk result (IsAtEnd (R.remaining input.new)) }
     ensures rows_after { IfOk result (λ worked. rows.new ≡ map_after (take worked.length space.new) rows.old) }
     ensures bound_call { IfOk result (λ worked. BoundCall (take worked.length space.new) rows.new ids.old worked.bounds ids.new) }
+    ensures err { OnErr result (((rows.new ≡ rows.old) × (ids.new ≡ ids.old)) ⊎ ((n : ℕ) × (answer : Bounds) × (rows.new ≡ map_after (take n space.new) rows.old) × BoundCall (take n space.new) rows.new ids.old answer ids.new)) }
 {
     let length = read(input, space)?;
     let bounds = own_bounds(&space[..length], rows, ids);
