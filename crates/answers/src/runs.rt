@@ -1,5 +1,7 @@
 // A run of patches, `R`: each patch is put to what the last accepted one left.
-ghost use Rattle.std.specs.Prelude.{◌≡◌, ◌≤◌, IfOk, length};
+ghost use Rattle.std.specs.Prelude.{◌≡◌, ◌≤◌, IfOk, length, OnErr, take};
+ghost use Rattle.rules.specs.declared.Patched.{Patched};
+ghost use Rattle.rules.specs.Calls.{PatchCall};
 
 use crate::{bounds, digest, patches, print, space};
 use console::input::read_full;
@@ -94,7 +96,9 @@ fn apply(
     base_map: &[u64],
     room: &mut [u8],
     new_map: &mut [u64],
-) -> io::Result<Patched> {
+) -> io::Result<Patched>
+    ensures called { (answer : Patched) × PatchCall base.now patch.now base_map.now room.old new_map.old answer room.new new_map.new }
+{
     let patched = patch::call::apply_patch(base, patch, base_map, room, new_map);
     let offending = patch::call::offending_part(base, patch);
     print::bar(out)?;
@@ -116,6 +120,7 @@ pub fn put_step(
 ) -> io::Result<Taken>
     ensures length_in_bounds { IfOk result (λ taken. taken.length ≤ length room.new) }
     ensures rows_in_bounds { IfOk result (λ taken. taken.rows ≤ length map.new) }
+    ensures err { OnErr result ((answer : Patched) × PatchCall base.now patch.now base_map.now (take room_bytes room.old) (take new_rows map.old) answer (take room_bytes room.new) (take new_rows map.new)) }
 {
     if room.len() < room_bytes {
         return Ok(broken());
@@ -143,7 +148,7 @@ pub fn put_step(
     })
 }
 
-// Reads the next step and puts its patch to what stands.
+// Reads the next step and puts its patch to what stands. An error leaves room and map as they were, or as the patch call left them.
 fn take_step(
     input: &mut impl Read,
     out: &impl Print,

@@ -1,5 +1,6 @@
 // Room for what a case lends, and reading it from the stream.
-ghost use Rattle.std.specs.Prelude.{◌≡◌, ◌≤◌, IfOk, OnErr, length};
+ghost use Rattle.std.specs.Prelude.{◌≡◌, ◌≤◌, ℕ, IfOk, OnErr, length, take};
+ghost use Rattle.std.specs.Io.KnownBytes.{Consumes};
 
 use console::input::read_full;
 use image::bytes::{four_bytes, two_bytes};
@@ -69,9 +70,9 @@ fn row_bytes() -> [u8; 640]
 
 // Reads count bytes to the start of the space and answers how many came: fewer where the stream ends before, and none
 // where the space is too short.
-pub fn fill(input: &mut impl Read, space: &mut [u8], count: usize) -> io::Result<usize>
+pub fn fill<R: Read>(input: &mut R, space: &mut [u8], count: usize) -> io::Result<usize>
     ensures in_bounds { IfOk result (λ n. n ≤ length space.new) }
-    ensures err { OnErr result (length space.new ≡ length space.old) }
+    ensures err { OnErr result ((n : ℕ) × (n ≤ length space.new) × Consumes (R.remaining input.old) (R.remaining input.new) (take n space.new)) }
 {
     if space.len() < count {
         return Ok(0);

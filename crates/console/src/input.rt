@@ -1,5 +1,7 @@
 // Reading the table image from standard input.
-ghost use Rattle.std.specs.Prelude.{◌≡◌, ◌≤◌, ◌<◌, IfOk, IfSome, OnOk, OnErr, length, take};
+ghost use Rattle.std.specs.Prelude.{◌≡◌, ◌≢◌, ◌≤◌, ◌<◌, ℕ, IfOk, IfErr, IfSome, OnOk, OnErr, length, take};
+ghost use Rattle.std.specs.IoError.{error_kind};
+ghost use Rattle.std.proofs.Math.Logic.{◌⊎◌};
 ghost use Rattle.std.specs.Io.KnownBytes.{Consumes, IsAtEnd, ReadConsumes};
 ghost use Rattle.std.specs.Io.{ReadsAtMost};
 
@@ -21,10 +23,11 @@ fn drain<R: Read>(input: &mut R) -> io::Result<()>
     Ok(())
 }
 
-// One read, tried again where a signal interrupts it.
+// One read, tried again where a signal interrupts it, up to 2^64 - 1 times.
 fn read_some<R: Read>(input: &mut R, space: &mut [u8]) -> io::Result<usize>
     ensures length_in_bounds { ReadsAtMost result space.new }
     ensures bytes { ReadConsumes (R.remaining input.old) (R.remaining input.new) result space.new }
+    ensures retried { IfErr result (λ e. error_kind e ≢ ErrorKind.Interrupted) }
 {
     for _ in 0..u64::MAX {
         match input.read(space) {
@@ -36,16 +39,17 @@ fn read_some<R: Read>(input: &mut R, space: &mut [u8]) -> io::Result<usize>
             }
         }
     }
-    Err(io::Error::from(ErrorKind::Interrupted))
+    Err(io::Error::from(ErrorKind::TimedOut))
 }
 
-// Reads until the space is full or the input ends, and answers how many bytes there are. An error leaves some of them in the space,
-// and their number is lost.
+// Reads until the space is full or the input ends, and answers how many bytes there are. An error leaves the bytes of the reads
+// before it at the start of the space, and their number is lost.
 pub fn read_full<R: Read>(input: &mut R, space: &mut [u8]) -> io::Result<usize>
     ensures length_in_bounds { IfOk result (λ n. n ≤ length space.new) }
     ensures bytes { IfOk result (λ n. Consumes (R.remaining input.old) (R.remaining input.new) (take n space.new)) }
     ensures end { IfOk result (λ n. n < length space.new → IsAtEnd (R.remaining input.new)) }
-    ensures err { OnErr result (length space.new ≡ length space.old) }
+    ensures err { OnErr result ((n : ℕ) × (n ≤ length space.new) × Consumes (R.remaining input.old) (R.remaining input.new) (take n space.new)) }
+    ensures retried { IfErr result (λ e. error_kind e ≢ ErrorKind.Interrupted) }
 {
     let mut done = 0;
     while done < space.len() {
@@ -58,12 +62,13 @@ pub fn read_full<R: Read>(input: &mut R, space: &mut [u8]) -> io::Result<usize>
     Ok(done)
 }
 
-// Reads the input to its end, in whatever pieces it comes, and answers how many of its bytes stand at the start of the space.
+// Reads the input to its end, in whatever pieces it comes, and answers how many of its bytes stand at the start of the space. An
+// error leaves there the bytes of the reads before it, or all that fit, where what is left over could not be read.
 pub fn read<R: Read>(input: &mut R, space: &mut [u8]) -> io::Result<usize>
     ensures length_in_bounds { IfOk result (λ n. n ≤ length space.new) }
     ensures bytes { IfOk result (λ n. IfSome (R.remaining input.old) (λ bytes. take n space.new ≡ take (length space.new) bytes)) }
     ensures end { OnOk result (IsAtEnd (R.remaining input.new)) }
-    ensures err { OnErr result (length space.new ≡ length space.old) }
+    ensures err { OnErr result (((n : ℕ) × (n ≤ length space.new) × Consumes (R.remaining input.old) (R.remaining input.new) (take n space.new)) ⊎ IfSome (R.remaining input.old) (λ bytes. space.new ≡ take (length space.new) bytes)) }
 {
     let length = read_full(input, space)?;
     if length == space.len() {
