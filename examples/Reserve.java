@@ -17,9 +17,6 @@ public final class Reserve {
 
     private static final long LARGEST_RESERVE = 4_294_967_295L;
 
-    /** More chains than figure 2 opens. */
-    private static final int MANY_CHAINS = 1000;
-
     /** A table image with its map. */
     private static final class Table {
         final byte[] image;
@@ -82,26 +79,8 @@ public final class Reserve {
     }
 
     /**
-     * Prints the reserve that is found within so many opened chains and returns how many were opened; where they do not
-     * suffice, prints the bounds that are known all the same, and returns 0.
-     */
-    private static long printWithin(Table of, long limit) {
-        short[] ids = new short[Siodlomil.CHAIN_IDS];
-        Siodlomil.BoundsWithin answer = Siodlomil.boundsWithin(of.image, of.map, ids, limit);
-        String within = "  within " + limit + " chains: ";
-        if (answer.isAccepted()) {
-            System.out.println(within + "reserve " + answer.chain + ", opened " + answer.opened);
-        } else if (answer.hasGivenUp()) {
-            System.out.println(within + "refused " + answer.number + " at " + answer.place + ", path " + answer.path
-                + ", transactions " + answer.transactions);
-        }
-        return answer.opened;
-    }
-
-    /**
      * Prints the reserve of a table, the chain of tasks that reaches it with the reasons, the other bounds, what room is left
-     * of that reserve, of one byte less and of the largest there is, a chain through another task, and what is found within
-     * many chains and within one less than were opened.
+     * of that reserve, of one byte less and of the largest there is, and a chain through another task.
      */
     private static void printReserve(Table of) {
         short[] ids = new short[Siodlomil.CHAIN_IDS];
@@ -123,10 +102,6 @@ public final class Reserve {
             printRoom(of, LARGEST_RESERVE, " to the first task", 1);
         }
         printThrough(of, ASKED);
-        long opened = printWithin(of, MANY_CHAINS);
-        if (opened > 0) {
-            printWithin(of, opened - 1);
-        }
     }
 
     /** Applies a patch to a base and returns the outcome with its map, or null. */

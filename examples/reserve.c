@@ -78,9 +78,8 @@ static void print_reason(const table *of, uint16_t low, uint16_t high)
     }
 }
 
-/* A task of figure 2 outside the chain that reaches its reserve, more chains than figure 2 opens, and the refusal where they
- * do not suffice. */
-enum { ASKED = 21, MANY_CHAINS = 1000, GAVE_UP = 13 };
+/* A task of figure 2 outside the chain that reaches its reserve. */
+enum { ASKED = 21 };
 
 /* Prints how many bytes each of the first tasks may grow until a chain through it weighs this much; less than 0 where one
  * weighs more already. */
@@ -113,26 +112,8 @@ static void print_through(const table *of, uint16_t id)
     }
 }
 
-/* Prints the reserve that is found within so many opened chains and returns how many were opened; where they do not suffice,
- * prints the bounds that are known all the same, and returns 0. */
-static uint32_t print_within(const table *of, uint32_t limit)
-{
-    uint16_t ids[SIODLOMIL_CHAIN_IDS];
-    siodlomil_bounds_within_answer answer = siodlomil_bounds_within(of->image, of->bytes, of->map, SIODLOMIL_MAP_ROWS, ids,
-                                                                    SIODLOMIL_CHAIN_IDS, limit);
-    if (answer.number == 0) {
-        printf("  within %" PRIu32 " chains: reserve %" PRIu32 ", opened %" PRIu32 "\n", limit, answer.chain,
-               answer.opened);
-    } else if (answer.number == GAVE_UP) {
-        printf("  within %" PRIu32 " chains: refused %" PRIu32 " at %" PRIu32 ", path %" PRIu32 ", transactions %" PRIu32
-               "\n", limit, answer.number, answer.place, answer.path, answer.transactions);
-    }
-    return answer.opened;
-}
-
 /* Prints the reserve of a table, the chain of tasks that reaches it with the reasons, the other bounds, what room is left of
- * that reserve, of one byte less and of the largest there is, a chain through another task, and what is found within many
- * chains and within one less than were opened. */
+ * that reserve, of one byte less and of the largest there is, and a chain through another task. */
 static void print_reserve(const table *of)
 {
     uint16_t ids[SIODLOMIL_CHAIN_IDS];
@@ -156,10 +137,6 @@ static void print_reserve(const table *of)
         print_room(of, UINT32_MAX, " to the first task", 1);
     }
     print_through(of, ASKED);
-    uint32_t opened = print_within(of, MANY_CHAINS);
-    if (0 < opened) {
-        print_within(of, opened - 1);
-    }
 }
 
 /* Applies a patch to a base and returns whether the outcome is a table. */

@@ -19,11 +19,8 @@ function isAccepted(call, { number, place }) {
   return number === 0;
 }
 
-// A task of figure 2 outside the chain that reaches its reserve, more chains than figure 2 opens, and the refusal where they do
-// not suffice.
+// A task of figure 2 outside the chain that reaches its reserve.
 const ASKED = 21;
-const MANY_CHAINS = 1000;
-const GAVE_UP = 13;
 
 // Prints how many bytes each of the first tasks may grow until a chain through it weighs this much; less than 0 where one
 // weighs more already.
@@ -43,22 +40,8 @@ function printThrough({ image, map }, id) {
   }
 }
 
-// Prints the reserve that is found within so many opened chains and returns how many were opened; where they do not suffice,
-// prints the bounds that are known all the same, and returns 0.
-function printWithin({ image, map }, limit) {
-  const ids = new Uint16Array(CHAIN_IDS);
-  const { number, place, chain, path, transactions, opened } = siodlomil.boundsWithin(image, map, ids, limit);
-  if (number === 0) {
-    console.log(`  within ${limit} chains: reserve ${chain}, opened ${opened}`);
-  } else if (number === GAVE_UP) {
-    console.log(`  within ${limit} chains: refused ${number} at ${place}, path ${path}, transactions ${transactions}`);
-  }
-  return opened;
-}
-
 // Prints the reserve of a table, the chain of tasks that reaches it with the reasons, the other bounds, what room is left of
-// that reserve, of one byte less and of the largest there is, a chain through another task, and what is found within many
-// chains and within one less than were opened.
+// that reserve, of one byte less and of the largest there is, and a chain through another task.
 function printReserve({ image, map }) {
   const ids = new Uint16Array(CHAIN_IDS);
   const answer = siodlomil.bounds(image, map, ids);
@@ -80,10 +63,6 @@ function printReserve({ image, map }) {
     printRoom({ image, map }, 4294967295, " to the first task", 1);
   }
   printThrough({ image, map }, ASKED);
-  const opened = printWithin({ image, map }, MANY_CHAINS);
-  if (opened > 0) {
-    printWithin({ image, map }, opened - 1);
-  }
 }
 
 // Applies a patch to a base and returns the outcome with its map, or nothing.
