@@ -91,6 +91,12 @@ module _ (base patch rows room new_rows : List ℕ) where
       → is_short base patch rows room new_rows ≡ false → patch_call_verdict base patch rows room new_rows ≡ fine
   call_fine h b s = call_verdict ∙ rw (h, b, s)
 
+  -- the image of the outcome is refused as a table
+  pub call_image_refused : accepted (both_verdict base patch) ≡ true → accepted (table_verdict (image_of Table (outcome (records base) (records patch)))) ≡ false
+      → patch_call_verdict base patch rows room new_rows ≡ refusal 10 0
+  call_image_refused h r =
+      call_broken h (outcome-broken base patch (both_table base patch h) (both_patch base patch h) ∙ ap not r)
+
   -- a refusal: its number and place, and nothing written
   pub patch_refused : (v : Verdict) → patch_call_verdict base patch rows room new_rows ≡ v → accepted v ≡ false
       → PatchCall base patch rows room new_rows (patch_refusal v) room new_rows
@@ -126,11 +132,7 @@ module _ (base patch : List ℕ) (both : accepted (both_verdict base patch) ≡ 
   judged_as : broken (outcome (records base) (records patch)) ≡ not (accepted (table_verdict (take n later)))
   judged_as = outcome-broken base patch (both_table base patch both) (both_patch base patch both) ∙ ap not (sym made.judged)
 
-  -- refused, the outcome is broken
-  pub refused_broken : accepted (table_verdict (take n later)) ≡ false → broken (outcome (records base) (records patch)) ≡ true
-  refused_broken h = judged_as ∙ ap not h
-
-  -- accepted, it is not
+  -- accepted, the outcome is not broken
   module _ (h : accepted (table_verdict (take n later)) ≡ true) where
     pub accepted_whole : broken (outcome (records base) (records patch)) ≡ false
     accepted_whole = judged_as ∙ ap not h
@@ -151,3 +153,6 @@ module _ (base patch : List ℕ) (both : accepted (both_verdict base patch) ≡ 
         sym (length-take-le n later made.inside)
         ∙ ap length accepted_image
         ∙ length-image_of Table (outcome (records base) (records patch)) (outcome_sized base patch (both_table base patch both) (both_patch base patch both))
+
+-- what decides the verdict of a patch call, for the functions that answer it
+pub ruleset call_verdicts = (call_refused, call_image_refused, offending_number)

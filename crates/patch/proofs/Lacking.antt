@@ -46,3 +46,22 @@ module _ (base patch : List ℕ) (bytes : Bytes base) (patch_bytes : Bytes patch
       let inside : met < record_count patch = omega (arith, over_all, as_many patch) in
       let read : record_at patch met ≡ get_or ps met [] = read_is patch met (record_at patch met) inside refl in
       end inside (ap way_of read ∙ ap (λ (k : ℕ). way_of (get_or ps k [])) over_all ∙ out)))
+
+-- the verdict, once the records that are met are counted
+module _ (base patch : List ℕ) (bytes : Bytes base) (patch_bytes : Bytes patch) (table : accepted (table_verdict base) ≡ true) (right : accepted (patch_verdict patch) ≡ true) where
+  -- refusal 9 where the next record is taken out
+  pub absent_told : met_among (records base) (records patch) (record_count base) < record_count patch
+      → way_of (record_at patch (met_among (records base) (records patch) (record_count base))) ≡ 0
+      → refusal 9 (met_among (records base) (records patch) (record_count base)) ≡ absent_refusal (records base) (records patch)
+  absent_told inside way =
+      sym (absent_refused base patch bytes patch_bytes table right (met_among (records base) (records patch) (record_count base)) refl inside way)
+
+  -- none where there is no next record or it is put in
+  pub present_told : (met_among (records base) (records patch) (record_count base) < record_count patch
+      → way_of (record_at patch (met_among (records base) (records patch) (record_count base))) ≡ 0 → ⊥)
+      → fine ≡ absent_refusal (records base) (records patch)
+  present_told other =
+      sym (absent_none base patch bytes patch_bytes table right (met_among (records base) (records patch) (record_count base)) refl other)
+
+-- what decides that verdict, for the function that answers it
+pub ruleset absent_verdicts = (absent_told, present_told)

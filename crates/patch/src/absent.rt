@@ -11,6 +11,7 @@ use table::{patch_verdict, table_verdict};
 
 // Whether the patch takes a record out that the base lacks. Both are in table order, so the records taken out are met in
 // turn among the base's up to the first that is lacking.
+#[tactic(auto, using(crate::proofs::Lacking::absent_verdicts))]
 fn absent_verdict(base: &[u8], patch: &[u8]) -> Verdict
     requires base_value { accepted (table_verdict base.now) ≡ true }
     requires patch_value { accepted (patch_verdict patch.now) ≡ true }

@@ -63,6 +63,7 @@ fn write_rooms(image: &[u8], found: Carried, room: &mut [u8], carried: &mut [u64
 }
 
 // Applies a patch, with a space for the image of its outcome.
+#[tactic(auto, using(crate::proofs::Calling::call_verdicts))]
 fn apply_in(
     base: &[u8],
     patch: &[u8],
@@ -108,6 +109,7 @@ pub fn apply_patch(
 }
 
 // The 32 bytes of refusal 9 as a part of the patch image, and an empty part where a call answers anything else.
+#[tactic(auto, using(crate::proofs::Calling::call_verdicts))]
 pub fn offending_part<'a>(base: &[u8], patch: &'a [u8]) -> &'a [u8]
     ensures { Offends base.now patch.now result.now }
 {

@@ -1,4 +1,4 @@
--- One case for each way out: refused before there is an outcome, a broken outcome, too short a map or room, and accepted.
+-- One case for each way out past the judged outcome: too short a map or room, and accepted.
 use Prim.Native.Nat.{ℕ}
 use mathlib.Core.List.{List}
 use mathlib.Core.Bool.{true, false, ◌||◌}
@@ -13,51 +13,25 @@ use Rattle.rules.specs.Patches.{outcome, touched_count}
 use Rattle.rules.specs.Refusals.{accepted, refusal, table_verdict}
 use Rattle.rules.specs.Calls.{over, patch_accepted}
 use Rattle.rules.proofs.Tests.{neither_first, neither_second}
-use Rattle.rules.proofs.Refusals.{zero_accepted, other_refused}
+use Rattle.rules.proofs.Refusals.{zero_accepted}
 use Rattle.table.specs.Precedence.{before_map}
 use Rattle.table.proofs.Counts.{patch_held}
 use Rattle.table.proofs.Judging.{judged_accepted, judged_before}
 use Rattle.patch.specs.Written.{ImageWritten}
 use Rattle.patch.proofs.Accepted.{table_long}
-use Rattle.patch.proofs.Calling.{both_verdict, is_short, both_table, both_patch, both_present, call_refused, call_broken, call_short, call_fine, patch_refused, patch_accepted_lem, refused_broken, accepted_whole, accepted_image, accepted-records, accepted-length}
+use Rattle.patch.proofs.Calling.{both_verdict, is_short, both_table, both_patch, both_present, call_short, call_fine, patch_refused, patch_accepted_lem, accepted_whole, accepted_image, accepted-records, accepted-length}
 use Rattle.patch.proofs.call.apply_in.Goals as goal
-
-pub returns-then-verdict-ne0 : goal.returns-then-verdict-ne0
-returns-then-verdict-ne0 c =
-    let a = c.args in
-    let verdict = c.verdict_of_both-verdict.ensures in
-    let refused : accepted (both_verdict a.base.now a.patch.now) ≡ false = other_refused _ _ verdict c.if-verdict-ne0.true in
-    rw (c.refused.ensures, verdict)
-    (patch_refused a.base.now a.patch.now a.map.now a.room.now a.carried.now (both_verdict a.base.now a.patch.now) (call_refused a.base.now a.patch.now a.map.now a.room.now a.carried.now refused) refused)
 
 pub write_outcome-length-requires : goal.write_outcome-length-requires
 write_outcome-length-requires c =
     let a = c.args in
-    let both = zero_accepted c.verdict_of_both-verdict.result (both_verdict a.base.now a.patch.now) c.verdict_of_both-verdict.ensures c.if-verdict-ne0.false in record { base_value = (both_table a.base.now a.patch.now both, both_patch a.base.now a.patch.now both); patch_value = both_present a.base.now a.patch.now both; in_bounds = c.requires }
+    let both = zero_accepted c.verdict_of_both-verdict.result (both_verdict a.base.now a.patch.now) c.verdict_of_both-verdict.ensures (omega arith) in record { base_value = (both_table a.base.now a.patch.now both, both_patch a.base.now a.patch.now both); patch_value = both_present a.base.now a.patch.now both; in_bounds = c.requires }
 
 pub slice_bounds-image-end-2 : goal.slice_bounds-image-end-2
 slice_bounds-image-end-2 c = sym (length-take-le c.write_outcome-length.result c.write_outcome-length.new.room c.write_outcome-length.ensures.inside)
 
 pub judge_table-outcome-requires : goal.judge_table-outcome-requires
 judge_table-outcome-requires c = refl
-
-pub returns-then-outcome-ne0 : goal.returns-then-outcome-ne0
-returns-then-outcome-ne0 c =
-    let base-of : List ℕ = c.args.base.now in
-    let patch-of : List ℕ = c.args.patch.now in
-    let map_of : List ℕ = c.args.map.now in
-    let room_of : List ℕ = c.args.room.now in
-    let carried_of : List ℕ = c.args.carried.now in
-    let space-of : List ℕ = c.args.space.now in
-    let long_of : ℕ = c.write_outcome-length.result in
-    let later_of : List ℕ = c.write_outcome-length.new.room in
-    let made : ImageWritten (outcome (records base-of) (records patch-of)) long_of space-of later_of = c.write_outcome-length.ensures in
-    let both : accepted (both_verdict base-of patch-of) ≡ true = zero_accepted c.verdict_of_both-verdict.result (both_verdict base-of patch-of) c.verdict_of_both-verdict.ensures c.if-verdict-ne0.false in
-    let image = take long_of later_of in
-    let refused : accepted (table_verdict image) ≡ false = other_refused _ _ c.judge_table-outcome.ensures.verdict c.if-outcome-ne0.true in
-    let broken = refused_broken base-of patch-of both long_of space-of later_of made refused in
-    rw c.refused-then-outcome-ne0.ensures
-    (patch_refused base-of patch-of map_of room_of carried_of (refusal 10 0) (call_broken base-of patch-of map_of room_of carried_of both broken) refl)
 
 pub returns-then-is_short : goal.returns-then-is_short
 returns-then-is_short c =
@@ -70,8 +44,8 @@ returns-then-is_short c =
     let long_of : ℕ = c.write_outcome-length.result in
     let later_of : List ℕ = c.write_outcome-length.new.room in
     let made : ImageWritten (outcome (records base-of) (records patch-of)) long_of space-of later_of = c.write_outcome-length.ensures in
-    let both : accepted (both_verdict base-of patch-of) ≡ true = zero_accepted c.verdict_of_both-verdict.result (both_verdict base-of patch-of) c.verdict_of_both-verdict.ensures c.if-verdict-ne0.false in
-    let right : accepted (table_verdict (take long_of later_of)) ≡ true = judged_accepted (take long_of later_of) c.judge_table-outcome.result _ c.judge_table-outcome.new.before c.judge_table-outcome.ensures c.if-outcome-ne0.false in
+    let both : accepted (both_verdict base-of patch-of) ≡ true = zero_accepted c.verdict_of_both-verdict.result (both_verdict base-of patch-of) c.verdict_of_both-verdict.ensures (omega arith) in
+    let right : accepted (table_verdict (take long_of later_of)) ≡ true = judged_accepted (take long_of later_of) c.judge_table-outcome.result _ c.judge_table-outcome.new.before c.judge_table-outcome.ensures (omega arith) in
     let whole = accepted_whole base-of patch-of both long_of space-of later_of made right in
     let short : is_short base-of patch-of map_of room_of carried_of ≡ true = rw (← accepted-length base-of patch-of both long_of space-of later_of made right) (sym c.is_short.ensures ∙ c.if-is_short.true) in
     rw c.refused-then-is_short.ensures
@@ -85,8 +59,8 @@ carry_map-found-requires c =
     let long_of : ℕ = c.write_outcome-length.result in
     let later_of : List ℕ = c.write_outcome-length.new.room in
     let made : ImageWritten (outcome (records base-of) (records patch-of)) long_of space-of later_of = c.write_outcome-length.ensures in
-    let both : accepted (both_verdict base-of patch-of) ≡ true = zero_accepted c.verdict_of_both-verdict.result (both_verdict base-of patch-of) c.verdict_of_both-verdict.ensures c.if-verdict-ne0.false in
-    let right : accepted (table_verdict (take long_of later_of)) ≡ true = judged_accepted (take long_of later_of) c.judge_table-outcome.result _ c.judge_table-outcome.new.before c.judge_table-outcome.ensures c.if-outcome-ne0.false in
+    let both : accepted (both_verdict base-of patch-of) ≡ true = zero_accepted c.verdict_of_both-verdict.result (both_verdict base-of patch-of) c.verdict_of_both-verdict.ensures (omega arith) in
+    let right : accepted (table_verdict (take long_of later_of)) ≡ true = judged_accepted (take long_of later_of) c.judge_table-outcome.result _ c.judge_table-outcome.new.before c.judge_table-outcome.ensures (omega arith) in
     let before_known : c.judge_table-outcome.new.before ≡ before_map (records (take long_of later_of)) = judged_before (take long_of later_of) c.judge_table-outcome.result _ c.judge_table-outcome.new.before c.judge_table-outcome.ensures right in
     record { base_value = (both_table base-of patch-of both, right); image_value = accepted-records base-of patch-of both long_of space-of later_of made right; before_value = before_known; holds_records = patch_held patch-of (both_patch base-of patch-of both) }
 
@@ -101,7 +75,7 @@ write_rooms-requires c =
     let long_of : ℕ = c.write_outcome-length.result in
     let later_of : List ℕ = c.write_outcome-length.new.room in
     let made : ImageWritten (outcome (records base-of) (records patch-of)) long_of space-of later_of = c.write_outcome-length.ensures in
-    let right : accepted (table_verdict (take long_of later_of)) ≡ true = judged_accepted (take long_of later_of) c.judge_table-outcome.result _ c.judge_table-outcome.new.before c.judge_table-outcome.ensures c.if-outcome-ne0.false in
+    let right : accepted (table_verdict (take long_of later_of)) ≡ true = judged_accepted (take long_of later_of) c.judge_table-outcome.result _ c.judge_table-outcome.new.before c.judge_table-outcome.ensures (omega arith) in
     let n = long_of in
     let enough : (ltb (length map_of) 64 || (ltb (length carried_of) 64 || ltb (length room_of) n)) ≡ false = sym c.is_short.ensures ∙ c.if-is_short.false in
     let rooms = neither_second (ltb (length map_of) 64) _ enough in
@@ -120,8 +94,8 @@ returns c =
     let long_of : ℕ = c.write_outcome-length.result in
     let later_of : List ℕ = c.write_outcome-length.new.room in
     let made : ImageWritten (outcome (records base-of) (records patch-of)) long_of space-of later_of = c.write_outcome-length.ensures in
-    let both : accepted (both_verdict base-of patch-of) ≡ true = zero_accepted c.verdict_of_both-verdict.result (both_verdict base-of patch-of) c.verdict_of_both-verdict.ensures c.if-verdict-ne0.false in
-    let right : accepted (table_verdict (take long_of later_of)) ≡ true = judged_accepted (take long_of later_of) c.judge_table-outcome.result _ c.judge_table-outcome.new.before c.judge_table-outcome.ensures c.if-outcome-ne0.false in
+    let both : accepted (both_verdict base-of patch-of) ≡ true = zero_accepted c.verdict_of_both-verdict.result (both_verdict base-of patch-of) c.verdict_of_both-verdict.ensures (omega arith) in
+    let right : accepted (table_verdict (take long_of later_of)) ≡ true = judged_accepted (take long_of later_of) c.judge_table-outcome.result _ c.judge_table-outcome.new.before c.judge_table-outcome.ensures (omega arith) in
     let n = long_of in
     let whole = accepted_whole base-of patch-of both n space-of later_of made right in
     let image = accepted_image base-of patch-of both n space-of later_of made right in

@@ -1,20 +1,11 @@
 -- Only a precedence pair has paths, and its two tasks are asked one after the other.
 use mathlib.Core.Path.{◌≡◌, ◌∙◌}
-use borrow.Author.Tests.{eq-eqb, ne_eqb}
+use native.Mathlib.Omega.{arith}
+use borrow.Author.Tests.{eq-eqb}
 use Rattle.rules.specs.Records.{number_of, second_of}
-use Rattle.patch.specs.Touched.{beside_in, along_in}
-use Rattle.patch.proofs.Touching.{marks_none, marks_either}
+use Rattle.patch.specs.Touched.{beside_in}
+use Rattle.patch.proofs.Touching.{marks_either}
 use Rattle.patch.proofs.touched.tasks_along.Goals as goal
-
-pub returns-then-byte_at-ne3 : goal.returns-then-byte_at-ne3
-returns-then-byte_at-ne3 c =
-    let a = c.args in
-    marks_none a.count (along_in a.ids.now a.count a.beside.now a.fields.now) (λ i l. rw (← c.byte_at.ensures.0, ne_eqb _ _ c.if-byte_at-ne3.true))
-
-pub returns-then-byte_at-ne1 : goal.returns-then-byte_at-ne1
-returns-then-byte_at-ne1 c =
-    let a = c.args in
-    marks_none a.count (along_in a.ids.now a.count a.beside.now a.fields.now) (λ i l. rw (← c.byte_at-2.ensures.0, ne_eqb _ _ c.if-byte_at-ne1.true, ← c.byte_at.ensures.0, eq-eqb _ _ c.if-byte_at-ne3.false))
 
 pub returns : goal.returns
 returns c =
@@ -23,7 +14,9 @@ returns c =
     let first : c.two_bytes.result ≡ number_of fields = c.two_bytes.ensures.0 in
     let second : c.two_bytes-2.result ≡ second_of fields = c.two_bytes-2.ensures.0 in
     let has = beside_in a.ids.now a.count a.beside.now in
+    let kind : c.byte_at.result ≡ 3 = omega arith in
+    let sort : c.byte_at-2.result ≡ 1 = omega arith in
     λ i l.
     rw c.union.ensures
     (marks_either a.count (has c.two_bytes.result) (has c.two_bytes-2.result) c.tasks_beside-first.result c.tasks_beside-second.result c.tasks_beside-first.ensures c.tasks_beside-second.ensures i l
-    ∙ rw (← c.byte_at-2.ensures.0, eq-eqb _ _ c.if-byte_at-ne1.false, ← c.byte_at.ensures.0, eq-eqb _ _ c.if-byte_at-ne3.false, first, second))
+    ∙ rw (← c.byte_at-2.ensures.0, eq-eqb _ _ sort, ← c.byte_at.ensures.0, eq-eqb _ _ kind, first, second))
