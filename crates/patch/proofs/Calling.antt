@@ -132,7 +132,11 @@ module _ (base patch : List ℕ) (both : accepted (both_verdict base patch) ≡ 
   judged_as : broken (outcome (records base) (records patch)) ≡ not (accepted (table_verdict (take n later)))
   judged_as = outcome-broken base patch (both_table base patch both) (both_patch base patch both) ∙ ap not (sym made.judged)
 
-  -- accepted, the outcome is not broken
+  -- refused, the outcome is broken
+  pub refused_broken : accepted (table_verdict (take n later)) ≡ false → broken (outcome (records base) (records patch)) ≡ true
+  refused_broken h = judged_as ∙ ap not h
+
+  -- accepted, it is not
   module _ (h : accepted (table_verdict (take n later)) ≡ true) where
     pub accepted_whole : broken (outcome (records base) (records patch)) ≡ false
     accepted_whole = judged_as ∙ ap not h
