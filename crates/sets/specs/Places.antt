@@ -1,5 +1,5 @@
 -- What holds of sets of places, numbers whose bit j says whether place j is in the set.
-use Rattle.std.specs.Prelude.{ℕ, ◌≤◌, ◌<◌, true, ◌&&◌, not, ◌≡◌, eqb, ltb}
+use Rattle.std.specs.Prelude.{ℕ, ◌≤◌, ◌<◌, true, ◌&&◌, not, ◌≡◌, eqb, ltb, Option, Some, None}
 use Rattle.rules.specs.Preempt.{bit_at}
 
 -- place i is in the set, and no lower place is
@@ -12,6 +12,11 @@ pub record Lowest (set i : ℕ) : Type 0 where
 pub record Without (set i smaller : ℕ) : Type 0 where
   pub less : smaller < set
   pub rest : (j : ℕ) → bit_at smaller j ≡ (bit_at set j && not (eqb j i))
+
+-- the lowest place of a set is taken out of it, and none where it is empty
+abbrev pub TakesLowest : ℕ → Option ℕ → ℕ → Type 0
+TakesLowest set None smaller = (set ≡ 0) × (smaller ≡ 0)
+TakesLowest set (Some place) smaller = Lowest set place × Without set place smaller
 
 -- both holds the places that a and b share
 abbrev pub Shared : ℕ → ℕ → ℕ → Type 0

@@ -28,11 +28,9 @@ fn lead_over(rows: &mut [u64; 64], count: usize, k: usize)
     if further == 0 {
         return;
     }
-    let mut i: usize = 0;
-    while i < count {
+    for i in 0..count {
         let row = rows[i];
         rows[i] = union_if(row, further, is_set(row, k));
-        i += 1;
     }
 }
 
@@ -42,9 +40,7 @@ pub fn close_rows(rows: &mut [u64; 64], count: usize)
     requires map { IsMap count rows.old }
     ensures { rows.new ≡ map_from count (reaches (cell rows.old) (λ k. k) count) }
 {
-    let mut k: usize = 0;
-    while k < count {
+    for k in 0..count {
         lead_over(rows, count, k);
-        k += 1;
     }
 }

@@ -3,9 +3,41 @@ ghost use Rattle.std.specs.Prelude.{◌≡◌, true, ◌≤◌, ◌<◌, length}
 ghost use Rattle.std.specs.Int.Bits.{bit_or};
 ghost use Rattle.rules.specs.Preempt.{row_from, bit_at};
 ghost use Rattle.sets.specs.Bits.{has_number};
-ghost use Rattle.sets.specs.Places.{Lowest, Without, Shared, Outside, Below};
+ghost use Rattle.sets.specs.Places.{Lowest, Without, Shared, Outside, Below, TakesLowest};
+ghost use Rattle.std.specs.Iterator.{at_most};
 
 use crate::bits::with_bit_if;
+
+// The places of a set, each once, by rising place.
+#[derive(Clone, Copy, Debug)]
+pub struct Places {
+    pub rest: u64,
+}
+
+impl Places {
+    pub fn of(set: u64) -> Places
+        ensures { result.rest ≡ set }
+    {
+        Places { rest: set }
+    }
+}
+
+impl Iterator for Places {
+    type Item = usize;
+
+    ghost next_gives = { λ before place after. TakesLowest before.rest place after.rest };
+
+    ghost remaining = { λ places. at_most places.rest };
+
+    fn next(&mut self) -> Option<usize> {
+        if self.rest == 0 {
+            return None;
+        }
+        let place = lowest(self.rest);
+        self.rest = without(self.rest, place);
+        Some(place)
+    }
+}
 
 // A place, as a number to index with.
 pub fn index_of(place: u8) -> usize
@@ -69,10 +101,8 @@ pub fn members(numbers: &[u32], count: usize, number: u32) -> u64
     ensures { result ≡ row_from count (has_number numbers.now number) }
 {
     let mut set: u64 = 0;
-    let mut place: usize = 0;
-    while place < count {
+    for place in 0..count {
         set = with_bit_if(set, place, numbers[place] == number);
-        place += 1;
     }
     set
 }

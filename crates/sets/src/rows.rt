@@ -5,7 +5,7 @@ ghost use Rattle.sets.specs.Bits.{with_cell};
 ghost use Rattle.sets.specs.Closing.{IsMap, ColumnAdded};
 
 use crate::bits::with_bit;
-use crate::places::{lowest, without};
+use crate::places::Places;
 
 // Sets cell j of row i besides.
 pub fn set_cell(rows: &mut [u64], i: usize, j: usize)
@@ -20,10 +20,7 @@ pub fn set_column(rows: &mut [u64], set: u64, place: usize)
     requires { (length rows.old ≡ 64) × (place < 64) }
     ensures { ColumnAdded set place rows.old rows.new }
 {
-    let mut rest = set;
-    while 0 < rest {
-        let other = lowest(rest);
-        rest = without(rest, other);
+    for other in Places::of(set) {
         set_cell(rows, other, place);
     }
 }
@@ -33,10 +30,8 @@ pub fn both_ways(rows: &mut [u64; 64], count: usize)
     requires { (count ≤ 64) × IsMap count rows.old }
     ensures { rows.new ≡ map_from count (λ i j. cell rows.old i j || cell rows.old j i) }
 {
-    let mut i: usize = 0;
-    while i < count {
+    for i in 0..count {
         let row = rows[i];
         set_column(rows, row, i);
-        i += 1;
     }
 }

@@ -7,6 +7,3 @@ use Rattle.sets.proofs.closing.close_rows.Given as goal
 
 abbrev pub invariant-loop-k : goal.invariant-loop-k
 invariant-loop-k l = (l.k ≤ l.count) × (l.rows ≡ map_from l.count (reaches (cell l.initial.rows) (λ m. m) l.k))
-
-abbrev pub decreases-loop-k : goal.decreases-loop-k
-decreases-loop-k l = l.count - l.k

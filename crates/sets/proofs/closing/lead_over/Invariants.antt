@@ -5,6 +5,3 @@ use Rattle.sets.proofs.closing.lead_over.Given as goal
 
 abbrev pub invariant-loop-i : goal.invariant-loop-i
 invariant-loop-i l = Leading l.count l.k l.initial.rows l.i l.rows
-
-abbrev pub decreases-loop-i : goal.decreases-loop-i
-decreases-loop-i l = l.count - l.i

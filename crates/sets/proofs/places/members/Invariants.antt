@@ -6,6 +6,3 @@ use Rattle.sets.proofs.places.members.Given as goal
 
 abbrev pub invariant-loop-place : goal.invariant-loop-place
 invariant-loop-place l = Chosen (has_number l.numbers l.number) l.count l.place l.set
-
-abbrev pub decreases-loop-place : goal.decreases-loop-place
-decreases-loop-place l = l.count - l.place

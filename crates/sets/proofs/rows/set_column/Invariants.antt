@@ -2,8 +2,5 @@
 use Rattle.sets.proofs.Turning.{Adding}
 use Rattle.sets.proofs.rows.set_column.Given as goal
 
-abbrev pub invariant-loop-rest : goal.invariant-loop-rest
-invariant-loop-rest l = Adding l.set l.place l.initial.rows l.rows l.rest
-
-abbrev pub decreases-loop-rest : goal.decreases-loop-rest
-decreases-loop-rest l = l.rest
+abbrev pub invariant-loop-other : goal.invariant-loop-other
+invariant-loop-other l = Adding l.set l.place l.initial.rows l.rows l.other-iterator.rest
