@@ -16,8 +16,14 @@ pub fn answer(input: &mut impl Read, out: &impl Print, case: &Case) -> Result<()
     let map = read_numbers(input, &mut map_space, case.read_rows)?;
     let ids = read_numbers(input, &mut id_space, case.id_count)?;
     let told = bounds_within(image, map, ids, case.limit());
-    print!(out; "H {} {} {} {}", told.number, told.place, told.tasks, told.chain)?;
-    print!(out; " {} {} {} {}", told.path, told.transactions, told.levels, told.length)?;
+    print!(out;
+        "H {} {} {} {}",
+        told.number, told.place, told.tasks, told.chain
+    )?;
+    print!(out;
+        " {} {} {} {}",
+        told.path, told.transactions, told.levels, told.length
+    )?;
     println!(out; " {} {}", told.opened, digest::of_numbers(ids))?;
     Ok(())
 }

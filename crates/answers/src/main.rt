@@ -3,18 +3,22 @@
 
 #![tactic(auto)]
 
+mod bounds;
 mod case;
 mod digest;
-mod little_endian;
-mod bounds;
 mod growth;
 mod limits;
+mod little_endian;
 mod maps;
 mod patches;
 mod print;
+mod reasons;
 mod reverses;
+mod runs;
 mod space;
+mod standing;
 mod stop;
+mod trips;
 mod verdicts;
 
 use crate::case::Case;
@@ -37,6 +41,9 @@ fn answer_next(input: &mut impl Read, out: &impl Print) -> Result<(), Stop> {
         b'A' => patches::answer(input, out, &case),
         b'V' => reverses::answer(input, out, &case),
         b'G' => growth::answer(input, out, &case),
+        b'U' => trips::answer(input, out, &case),
+        b'W' => reasons::answer(input, out, &case),
+        b'R' => runs::answer(input, out, &case),
         _ => Err(Stop::Ended),
     }
 }

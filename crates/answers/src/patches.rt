@@ -22,7 +22,11 @@ pub fn answer(input: &mut impl Read, out: &impl Print, case: &Case) -> Result<()
     let offending = offending_part(base, patch);
     print!(out; "A")?;
     print::patched(out, patched, offending)?;
-    print!(out; " {} {}", digest::of_bytes(offending), digest::of_bytes(room))?;
+    print!(out;
+        " {} {}",
+        digest::of_bytes(offending),
+        digest::of_bytes(room)
+    )?;
     println!(out; " {}", digest::of_numbers(new_map))?;
     Ok(())
 }

@@ -18,13 +18,22 @@ pub fn verdict(out: &impl Print, told: Verdict) -> io::Result<()> {
 
 // The numbers of a bound call.
 pub fn bounds(out: &impl Print, told: Bounds) -> io::Result<()> {
-    print!(out; " {} {} {} {}", told.number, told.place, told.tasks, told.chain)?;
-    print!(out; " {} {} {} {}", told.path, told.transactions, told.levels, told.length)
+    print!(out;
+        " {} {} {} {}",
+        told.number, told.place, told.tasks, told.chain
+    )?;
+    print!(out;
+        " {} {} {} {}",
+        told.path, told.transactions, told.levels, told.length
+    )
 }
 
 // The numbers of a patch call, and the length of the offending part.
 pub fn patched(out: &impl Print, told: Patched, offending: &[u8]) -> io::Result<()> {
-    print!(out; " {} {} {} {}", told.number, told.place, told.touched, told.length)?;
+    print!(out;
+        " {} {} {} {}",
+        told.number, told.place, told.touched, told.length
+    )?;
     print!(out; " {}", offending.len())
 }
 
