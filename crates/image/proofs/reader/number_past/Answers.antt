@@ -15,10 +15,6 @@ use Rattle.image.proofs.reader.number_past.Goals as goal
 inside : {past : Bool} (n k : ℕ) → past ≡ leb n k → past ≡ false → k < n
 inside n k says not-past = leb-false n k (sym says ∙ not-past)
 
--- what was compared is the image's record k
-compared : {r : List ℕ} {found : Bool} (image fields : List ℕ) (k : ℕ) → r ≡ record_at image k → found ≡ same r fields → found ≡ same (record_at image k) fields
-compared image fields k record-k answer = answer ∙ ap (λ (r : List ℕ). same r fields) record-k
-
 pub returns-then-is_past : goal.returns-then-is_past
 returns-then-is_past c =
     let args = c.args in
@@ -30,16 +26,14 @@ overflow_add-result c =
     let here : args.k < record_count args.image.now = inside _ _ c.is_past.ensures c.if-is_past.false in
     record { fits = omega (arith, count_fits args.image.now (omega arith) (λ i. (c.type_inv.image i).fits)) }
 
-pub returns-then-is_same : goal.returns-then-is_same
-returns-then-is_same c =
+pub returns-then-is_record : goal.returns-then-is_record
+returns-then-is_record c =
     let args = c.args in
     let here = inside _ _ c.is_past.ensures c.if-is_past.false in
-    let found = compared args.image.now args.fields.now args.k c.record_part.ensures c.is_same.ensures in
-    rw (past_inside args.image.now args.fields.now args.k here, ← found, c.if-is_same.true)
+    rw (past_inside args.image.now args.fields.now args.k here, ← c.is_record.ensures, c.if-is_record.true)
 
-pub returns-else-is_same : goal.returns-else-is_same
-returns-else-is_same c =
+pub returns-else-is_record : goal.returns-else-is_record
+returns-else-is_record c =
     let args = c.args in
     let here = inside _ _ c.is_past.ensures c.if-is_past.false in
-    let found = compared args.image.now args.fields.now args.k c.record_part.ensures c.is_same.ensures in
-    rw (past_inside args.image.now args.fields.now args.k here, ← found, c.if-is_same.false)
+    rw (past_inside args.image.now args.fields.now args.k here, ← c.is_record.ensures, c.if-is_record.false)
