@@ -3,7 +3,7 @@ ghost use Rattle.std.specs.Prelude.{◌≡◌, ◌||◌, not, ◌+◌, ◌*◌, 
 ghost use Rattle.rules.specs.Numbers.{blank};
 ghost use Rattle.rules.specs.Blocks.{check_of, check_wrong, count_right, mark_wrong, header_wrong};
 
-use crate::bytes::{byte_at, is_blank, two_bytes, wide};
+use crate::bytes::{byte_at, is_blank, two_bytes};
 use rules::Form;
 
 // The check that the first 510 bytes of a block call for. Byte i is in each of the sums from its own on, so that 511 times
@@ -14,11 +14,9 @@ pub fn check_of(block: &[u8]) -> u32
 {
     let mut sum: u32 = 0;
     let mut sums: u32 = 0;
-    let mut i: usize = 0;
-    while i < 510 {
-        sum += wide(block[i]);
+    for i in 0..510 {
+        sum += u32::from(block[i]);
         sums += sum;
-        i += 1;
     }
     (511 * sum - sums) % 65521
 }
@@ -35,10 +33,10 @@ pub fn is_check_wrong(block: &[u8]) -> bool
 fn differs(block: &[u8], mark: &[u8; 2]) -> bool
     ensures { result ≡ (not (eqb (get_or block.now 0 0) (get_or mark.now 0 0)) || not (eqb (get_or block.now 1 0) (get_or mark.now 1 0))) }
 {
-    if byte_at(block, 0) != wide(mark[0]) {
+    if byte_at(block, 0) != u32::from(mark[0]) {
         return true;
     }
-    byte_at(block, 1) != wide(mark[1])
+    byte_at(block, 1) != u32::from(mark[1])
 }
 
 // Whether a block starts with other letters than its form's.

@@ -2,7 +2,7 @@
 ghost use Rattle.std.specs.Prelude.{◌≡◌, ◌+◌, ◌^◌, ◌≤◌, ◌<◌, length};
 ghost use Rattle.rules.specs.Blocks.{record_start, record_at, record_count};
 
-use crate::bytes::{byte_at, least};
+use crate::bytes::byte_at;
 
 // How many records an image holds, by the count of its last block.
 pub fn record_count(image: &[u8]) -> usize
@@ -47,7 +47,7 @@ pub fn record_part(image: &[u8], k: usize) -> &[u8]
         return &image[length..length];
     }
     let start = record_start(k);
-    let from = least(start, length);
-    let to = least(start + rules::RECORD_BYTES, length);
+    let from = start.min(length);
+    let to = (start + rules::RECORD_BYTES).min(length);
     &image[from..to]
 }

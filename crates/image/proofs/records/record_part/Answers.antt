@@ -16,5 +16,5 @@ returns-then-length-k c =
 pub returns : goal.returns
 returns c =
     let a = c.args in
-    rw (c.least-from.ensures, c.least-to.ensures, c.record_start-start.ensures)
+    rw (c.min-from.ensures, c.min-to.ensures, c.record_start-start.ensures)
     (part_clipped a.image.now (record_start a.k) 32)
