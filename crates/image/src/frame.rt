@@ -39,13 +39,9 @@ fn is_length_wrong(form: Form, image: &[u8]) -> bool
     ensures { result ≡ length_wrong form image.now }
 {
     let length = image.len();
-    if length == 0 {
-        return true;
-    }
-    if length % rules::BLOCK_BYTES != 0 {
-        return true;
-    }
-    most_blocks(form) < length / rules::BLOCK_BYTES
+    length == 0
+        || length % rules::BLOCK_BYTES != 0
+        || most_blocks(form) < length / rules::BLOCK_BYTES
 }
 
 // Block b of an image, as a part of it.

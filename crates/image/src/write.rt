@@ -4,7 +4,7 @@ ghost use Rattle.rules.specs.Blocks.{mark, blocks_for, with_check, image_of};
 ghost use Rattle.rules.specs.Calls.{over, cut, blocks_of, written_length, written_room};
 ghost use Rattle.image.specs.Write.{header_of, body_bytes};
 
-use crate::block::check_of;
+use crate::block::{check_of, mark};
 use crate::frame::most_blocks;
 use rules::Form;
 
@@ -17,16 +17,6 @@ pub fn copy_bytes(from: &[u8], to: &mut [u8])
     ensures { to.new ≡ over from.now to.old }
 {
     to[..from.len()].copy_from_slice(from);
-}
-
-// The letters of the form.
-fn mark(form: Form) -> [u8; 2]
-    ensures { result ≡ mark form }
-{
-    match form {
-        Form::Table => *b"TB",
-        Form::Patch => *b"PA",
-    }
 }
 
 // Writes the header of block b of total over the start of the block.
