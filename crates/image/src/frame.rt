@@ -72,6 +72,7 @@ fn first_wrong_header(form: Form, image: &[u8]) -> Option<usize>
 }
 
 // What is wrong with the blocks, if anything: length, then checks, then headers, each over the whole image before the next.
+#[tactic(auto, using(crate::proofs::First::refuse_at_first, crate::proofs::First::refuse_at_no_first), unfolding(rules::specs::Refusals::frame_verdict))]
 pub fn frame_verdict(form: Form, image: &[u8]) -> Result<(), Refusal>
     ensures { judged result ≡ frame_verdict form image.now }
 {

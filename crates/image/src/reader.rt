@@ -35,6 +35,7 @@ impl<'a> Iterator for Records<'a> {
 
     ghost remaining = { item_count (λ s. records_left s.image.now s.next s.count) };
 
+    #[tactic(auto, using(crate::proofs::InTurn::left_more, crate::proofs::InTurn::left_none))]
     fn next(&mut self) -> Option<&'a [u8]> {
         if self.count <= self.next {
             return None;
@@ -61,6 +62,7 @@ fn is_record(image: &[u8], k: usize, fields: &[u8]) -> bool
 }
 
 // The number after k where the image's record k is these bytes, and else k.
+#[tactic(auto, using(crate::proofs::InTurn::past_last, crate::proofs::InTurn::past_inside, crate::proofs::InTurn::count_fits))]
 pub fn number_past(image: &[u8], k: usize, fields: &[u8]) -> usize
     ensures { result ≡ past (records image.now) fields.now k }
 {
@@ -75,6 +77,7 @@ pub fn number_past(image: &[u8], k: usize, fields: &[u8]) -> usize
 }
 
 // How many records of the other image, from its first on, are met in turn among the image's records.
+#[tactic(auto, using(crate::proofs::InTurn::met_before))]
 pub fn met_among(image: &[u8], other: &[u8]) -> usize
     ensures { result ≡ met_among (records image.now) (records other.now) (record_count image.now) }
 {

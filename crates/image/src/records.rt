@@ -39,6 +39,7 @@ pub fn record_at(image: &[u8], k: usize) -> &[u8]
 }
 
 // The bytes of record k that lie in the image, as a part of it: past the image's end there are fewer than 32 or none.
+#[tactic(auto, using(crate::proofs::Parts::part_clipped, crate::proofs::Parts::part_past))]
 pub fn record_part(image: &[u8], k: usize) -> &[u8]
     ensures { result.now ≡ record_at image.now k }
 {
