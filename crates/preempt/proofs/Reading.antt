@@ -3,7 +3,7 @@ use Prim.Native.Nat.{ℕ, ◌+◌, ◌≤◌, ◌<◌}
 use mathlib.Core.List.{List, []}
 use mathlib.Core.Path.{◌≡◌, refl, ap, sym, ◌∙◌}
 use native.Mathlib.Omega.{arith}
-use lib.ListN.{get_or, set, replicate, get_or-eq_default}
+use lib.ListN.{get_or, set, get_or-eq_default}
 use Rattle.rules.specs.declared.Task.{Task}
 use Rattle.rules.specs.Records.{number_of, second_of, tasks, task_count, task_of, task_at, period_in, period_at}
 use Rattle.rules.specs.Preempt.{barred as Preempt·barred, decided, cell, map_from, map_of}
@@ -88,8 +88,7 @@ module _ (rs : List (List ℕ)) (count : ℕ) (columns : Columns) (shape : Shape
 pub tasks_determined : (rs : List (List ℕ)) (n m : ℕ) (l k : Columns) → TasksRead rs n l → TasksRead rs m k → (n ≡ m) × (l ≡ k)
 tasks_determined rs n m l k p q =
     let a = p.columns in
-    let b = q.columns in
-    (
+    let b = q.columns in (
       p.count ∙ sym q.count,
       rw (a.ids, a.transactions, a.priorities, a.offsets, a.jitters, a.responses, a.sizes, a.thresholds, a.periods, b.ids, b.transactions, b.priorities, b.offsets, b.jitters, b.responses, b.sizes, b.thresholds, b.periods) refl,
     )

@@ -1,12 +1,11 @@
 use Prim.Native.Nat.{ℕ}
 use mathlib.Core.List.{[]}
-use mathlib.Core.Path.{◌≡◌, ap, subst, ◌∙◌}
+use mathlib.Core.Path.{ap, ◌∙◌}
 use native.Mathlib.Omega.{arith}
 use lib.ListN.{get_or}
 use Rattle.rules.specs.Blocks.{records}
-use Rattle.rules.specs.Records.{tasks, task_count, task_of}
+use Rattle.rules.specs.Records.{tasks, task_of}
 use Rattle.table.proofs.Tables.{few_records}
-use Rattle.preempt.specs.Tasks.{ColumnsTo}
 use Rattle.preempt.proofs.Reading.{columns_none, columns_more}
 use Rattle.preempt.proofs.tasks.read_tasks.Goals as goal
 
