@@ -1,5 +1,5 @@
 -- What holds of sets of places, numbers whose bit j says whether place j is in the set.
-use Rattle.std.specs.Prelude.{ℕ, ◌≤◌, ◌<◌, true, ◌&&◌, not, ◌≡◌, eqb, ltb, Option, Some, None}
+use Rattle.std.specs.Prelude.{ℕ, ◌≤◌, ◌<◌, true, ◌&&◌, not, ◌≡◌, eqb, ltb, Option, Some, None, Bool}
 use Rattle.rules.specs.Preempt.{bit_at}
 
 -- place i is in the set, and no lower place is
@@ -34,3 +34,7 @@ Below count set = (j : ℕ) → bit_at set j ≡ ltb j count
 -- every place of the set is below count
 abbrev pub Inside : ℕ → ℕ → Type 0
 Inside count set = (j : ℕ) → bit_at set j ≡ true → j < count
+
+-- whatever is answered of a place below count is what the test says of it
+abbrev pub Tells : ℕ → (ℕ → Bool → Type 0) → (ℕ → Bool) → Type 0
+Tells count answers test = (place : ℕ) (passes : Bool) → place < count → answers place passes → passes ≡ test place
