@@ -1,5 +1,5 @@
 -- What holds of sets of places, numbers whose bit j says whether place j is in the set.
-use Rattle.std.specs.Prelude.{ℕ, ◌≤◌, ◌<◌, true, ◌&&◌, not, ◌≡◌, eqb, ltb, Option, Some, None, Bool}
+use Rattle.std.specs.Prelude.{ℕ, ◌≤◌, ◌<◌, true, ◌&&◌, not, ◌≡◌, eqb, ltb, Option, Some, None}
 use Rattle.rules.specs.Preempt.{bit_at}
 
 -- place i is in the set, and no lower place is
@@ -35,6 +35,6 @@ Below count set = (j : ℕ) → bit_at set j ≡ ltb j count
 abbrev pub Inside : ℕ → ℕ → Type 0
 Inside count set = (j : ℕ) → bit_at set j ≡ true → j < count
 
--- whatever is answered of a place below count is what the test says of it
-abbrev pub Tells : ℕ → (ℕ → Bool → Type 0) → (ℕ → Bool) → Type 0
-Tells count answers test = (place : ℕ) (passes : Bool) → place < count → answers place passes → passes ≡ test place
+-- whatever is answered of a place below count is what the function says of it
+abbrev pub Tells : {A : Type 0} → ℕ → (ℕ → A → Type 0) → (ℕ → A) → Type 0
+Tells {A} count answers f = (place : ℕ) (answer : A) → place < count → answers place answer → answer ≡ f place

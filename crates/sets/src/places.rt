@@ -2,7 +2,7 @@
 ghost use Rattle.std.specs.Prelude.{◌≡◌, ℕ, Bool, true, ◌≤◌, ◌<◌, length};
 ghost use Rattle.std.specs.Int.Bits.{bit_or};
 ghost use Rattle.rules.specs.Preempt.{row_from, bit_at};
-ghost use Rattle.sets.specs.Bits.{has_number};
+ghost use Rattle.sets.specs.Bits.{has_number, filled};
 ghost use Rattle.sets.specs.Places.{Lowest, Without, Shared, Outside, Below, TakesLowest, Tells};
 ghost use Rattle.std.specs.Iterator.{at_most};
 
@@ -106,6 +106,19 @@ pub fn places_where<F: Fn(usize) -> bool>(count: usize, passes: F) -> u64
         set = with_bit_if(set, place, passes(place));
     }
     set
+}
+
+// 64 values by place: what is answered of each place below count, and another value beyond.
+pub fn by_place<T: Copy, F: Fn(usize) -> T>(count: usize, beyond: T, value: F) -> [T; 64]
+    requires few { count ≤ 64 }
+    requires callable { (place : ℕ) → place < count → F.pre value place }
+    ensures { (f : ℕ → T) → Tells count (F.post value) f → result ≡ filled beyond count f }
+{
+    let mut values = [beyond; 64];
+    for place in 0..count {
+        values[place] = value(place);
+    }
+    values
 }
 
 // The places below count whose number is this one.
