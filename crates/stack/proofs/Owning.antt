@@ -11,7 +11,7 @@ use Rattle.rules.specs.Numbers.{sum_to, lowest}
 use Rattle.rules.specs.Records.{number_of}
 use Rattle.rules.specs.Preempt.{cell, row_from, bit_at}
 use Rattle.rules.specs.Chains.{weight, Path, All, Largest}
-use Rattle.rules.proofs.Numbers.{either, lowest_passes, some_true, sum_to_zero, sum_to_step, sum_to_ext}
+use Rattle.rules.proofs.Numbers.{either, lowest_passes, sum_to_zero, sum_to_step, sum_to_ext}
 use Rattle.rules.proofs.Tests.{both_first}
 use Rattle.rules.proofs.Maps.{row_at}
 use Rattle.rules.proofs.Table.Order.{Rises, one_with}
@@ -75,8 +75,7 @@ module _ {n : ℕ} {rows sizes order : List ℕ} (ready : Ready n rows sizes ord
   -- each task has a place there
   stands : (i : ℕ) → i < n → (lowest (at i) n < n) × (get_or order (lowest (at i) n) 0 ≡ i)
   stands i h =
-      let (k, below, here) = ready.occurs i h in
-      let inside = ltb-true (lowest (at i) n) n (some_true (at i) n k below (eq-eqb (get_or order k 0) i here)) in
+      let inside = ltb-true (lowest (at i) n) n (ready.occurs i h) in
       (inside, eqb-true (get_or order (lowest (at i) n) 0) i (lowest_passes (at i) n inside))
 
   rises_from_end : (i j : ℕ) → i < n → j < n → T (cell rows i j) → n - lowest (at i) n < n - lowest (at j) n

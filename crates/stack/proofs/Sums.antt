@@ -6,12 +6,13 @@ use mathlib.Core.Bool.{true, false}
 use mathlib.Core.Path.{◌≡◌, refl, sym, subst, ◌∙◌}
 use mathlib.Core.Logic.{◌⊎◌, inl, ⊎_elim}
 use native.Mathlib.Omega.{arith}
+use borrow.Author.Tests.{eqb-true}
 use lib.ListN.{length, get_or, replicate, set as set_at, length-set}
 use lib.Seq.{get_or-set_same, get_or-set_other}
-use lib.Dec.{T}
+use lib.Dec.{T, eqb}
 use Rattle.rules.specs.Preempt.{cell, bit_at}
 use Rattle.rules.specs.Chains.{weight, Path, All}
-use Rattle.rules.proofs.Numbers.{either, never}
+use Rattle.rules.proofs.Numbers.{either, never, some_place}
 use Rattle.rules.proofs.Tests.{both_first, both_second, T_true, true_T}
 use Rattle.sets.specs.Places.{Without, Shared, Inside}
 use Rattle.ceiling.specs.Near.{size_of}
@@ -136,8 +137,8 @@ module _ {n : ℕ} {rows sizes order : List ℕ} {cover : ℕ} (ready : Ready n 
         within = omega arith;
         inside = λ j h. h;
         later = λ j h.
-            let (m, below, same) = ready.occurs j (inside j h) in
-            (m, omega arith, below, same);
+            let (m, below, same) = some_place (λ k. eqb (get_or order k 0) j) n (ready.occurs j (inside j h)) in
+            (m, omega arith, below, eqb-true (get_or order m 0) j same);
         settled = λ j h g. never (bit_at cover j) h g;
         light = λ j h g. never (bit_at cover j) h g;
         kept = λ j h. refl;
