@@ -151,6 +151,13 @@ module _ {n : ℕ} {rows sizes order : List ℕ} {cover : ℕ} (ready : Ready n 
       let (m, above, below, same) = so_far.later (count_trailing_zeros 64 rest) lowest.there in
       omega arith
 
+  -- and the next place of the order is a task's
+  pub next_place : {before sums : List ℕ} {rest k place : ℕ} → Underway n rows sizes order cover before sums rest k → 0 < rest → cover < 2 ^ 64
+      → place ≡ get_or order k 0 → (k < n) × (place < n) × (n ≤ 64)
+  next_place {k = k} so_far some fits here =
+      let left = underway_left so_far some (omega (arith, so_far.within, fits)) in
+      (left, omega (arith, here, ready.places k left), ready.arrays.few)
+
   -- the next place of the order is not in the rest
   pub underway_skip : {before sums : List ℕ} {rest k : ℕ} → Underway n rows sizes order cover before sums rest k → k < n → bit_at rest (get_or order k 0) ≡ false → Underway n rows sizes order cover before sums rest (k + 1)
   underway_skip {rest = rest} {k = k} so_far below outside =
