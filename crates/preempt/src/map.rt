@@ -11,7 +11,8 @@ use crate::barred::mark_one_way;
 use crate::columns::Columns;
 use crate::decide::may_preempt;
 use crate::tasks::read_tasks;
-use sets::bits::{is_set, with_bit_if};
+use sets::bits::is_set;
+use sets::places::{by_place, places_where};
 use sets::rows::both_ways;
 use table::accepted::Table;
 
@@ -30,13 +31,7 @@ pub fn decided_row(columns: &Columns, count: usize, bars: u64, i: usize) -> u64
     requires { (i < 64) × (count ≤ 64) }
     ensures { result ≡ row_from count (decided_on columns.now bars i) }
 {
-    let mut row: u64 = 0;
-    let mut j: usize = 0;
-    while j < count {
-        row = with_bit_if(row, j, may_preempt_at(columns, bars, i, j));
-        j += 1;
-    }
-    row
+    places_where(count, |j| may_preempt_at(columns, bars, i, j))
 }
 
 // The map of the tasks, where the rows of barred say which places are barred from which.
@@ -44,13 +39,7 @@ fn map_of(columns: &Columns, barred: &[u64; 64], count: usize) -> [u64; 64]
     requires { count ≤ 64 }
     ensures { result ≡ map_from count (decided_by columns.now barred.now) }
 {
-    let mut map = [0u64; 64];
-    let mut i: usize = 0;
-    while i < count {
-        map[i] = decided_row(columns, count, barred[i], i);
-        i += 1;
-    }
-    map
+    by_place(count, 0, |i| decided_row(columns, count, barred[i], i))
 }
 
 // Writes the 64 rows of a map over the start of a lent one.
@@ -58,11 +47,7 @@ pub fn write_rows(map: [u64; 64], lent: &mut [u64])
     requires { (length map ≡ 64) × (64 ≤ length lent.old) }
     ensures { lent.new ≡ over map lent.old }
 {
-    let mut i: usize = 0;
-    while i < 64 {
-        lent[i] = map[i];
-        i += 1;
-    }
+    lent[..64].copy_from_slice(&map);
 }
 
 // The map of an accepted table, of whose tasks before says which come before which.
