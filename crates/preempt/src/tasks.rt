@@ -18,11 +18,14 @@ pub struct Tasks<'a> {
     ghost read: { TasksRead (records table.image.now) table.tasks columns },
 }
 
+// The jitter of a task that is not measured.
+const UNMEASURED: u32 = u32::MAX;
+
 // A jitter, where one that is missing is read as the period of the task's transaction.
 fn jitter_of(period: u32, jitter: u32) -> u32
     ensures { result ≡ jitter_of period jitter }
 {
-    if jitter == 4_294_967_295 {
+    if jitter == UNMEASURED {
         return period;
     }
     jitter
