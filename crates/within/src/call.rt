@@ -25,8 +25,7 @@ fn within_over(tasks: &Tasks, prepared: &Prepared, ids: &mut [u16], limit: u32) 
     let tally = tally_chains(&ordered, limit);
     if tally.is_spent() {
         let path = path_bound(&ordered);
-        let transactions =
-            transaction_bound(&tasks.table, &tasks.columns.transactions, &ordered);
+        let transactions = transaction_bound(&tasks.table, &tasks.columns.transactions, &ordered);
         return WithinFound::GaveUp { path, transactions };
     }
     WithinFound::Opened(bounds_over(tasks, prepared, ids), tally.opened(limit))
@@ -35,7 +34,12 @@ fn within_over(tasks: &Tasks, prepared: &Prepared, ids: &mut [u16], limit: u32) 
 // The bounds of a table image over a lent map of any contents, and the number of chains that 001's Algorithm 1 opens for them.
 // Where it is above the limit, the path and transactions bounds alone. The chain's ids go to the lent room; a refusal writes
 // nothing.
-pub fn bounds_within(image: &[u8], map: &[u64], ids: &mut [u16], limit: u32) -> Result<WithinFound, Refusal>
+pub fn bounds_within(
+    image: &[u8],
+    map: &[u64],
+    ids: &mut [u16],
+    limit: u32,
+) -> Result<WithinFound, Refusal>
     ensures { WithinCall image.now map.now ids.old limit (within_told result) ids.new }
 {
     let table = table_verdict(image)?;
