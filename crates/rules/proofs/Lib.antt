@@ -10,6 +10,7 @@ pub mod Blocks
 pub mod Over
 pub mod Signed
 pub mod Refusals
+pub mod Judged
 pub mod Image
 pub mod Table
 pub mod Before

@@ -1,6 +1,7 @@
 pub mod Numbers
 pub mod Blocks
 pub mod Records
+pub mod Kinds
 pub mod Reasons
 pub mod Reach
 pub mod Preempt
@@ -10,5 +11,6 @@ pub mod Execution
 pub mod Patches
 pub mod Refusals
 pub mod Calls
+pub mod Told
 pub mod Runs
 pub mod Cable

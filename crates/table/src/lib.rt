@@ -2,6 +2,7 @@
 
 #![tactic(auto)]
 
+pub mod accepted;
 pub mod count;
 mod form;
 pub mod order;
