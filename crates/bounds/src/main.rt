@@ -12,8 +12,8 @@ fn main(rt: HostRuntime) -> io::Result<()> {
     let mut rows = [0u64; 64];
     let mut ids = [0u16; 64];
     let worked = console::worked::work_out(&mut rt.stdin(), &rt, &mut space, &mut rows, &mut ids)?;
-    if worked.bounds.number == 0 {
-        print::found(&rt, worked.bounds, &ids)?;
+    if let Ok(found) = worked.bounds {
+        print::found(&rt, &found, &ids[..found.length as usize])?;
     }
     Ok(())
 }

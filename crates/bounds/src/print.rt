@@ -1,12 +1,12 @@
 // The lines that the program prints.
-use rules::Bounds;
+use rules::BoundsFound;
 use std::io;
 
 // The number of tasks, the chain bound and its ids, and the three other bounds.
-pub fn found(out: &impl Print, bounds: Bounds, ids: &[u16]) -> io::Result<()> {
+pub fn found(out: &impl Print, bounds: &BoundsFound, ids: &[u16]) -> io::Result<()> {
     println!(out; "tasks {}", bounds.tasks)?;
     print!(out; "chain {}:", bounds.chain)?;
-    for id in ids.iter().take(bounds.length as usize) {
+    for id in ids {
         print!(out; " {id}")?;
     }
     println!(out; "\npath {}", bounds.path)?;

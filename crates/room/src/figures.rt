@@ -1,30 +1,47 @@
 // What the tasks of a table have left of a reserve.
 ghost use Rattle.std.specs.Prelude.{◌≡◌};
 ghost use Rattle.rules.specs.Calls.{map_after, RoomLeftCall};
+ghost use Rattle.rules.specs.Told.{judged};
 
 use crate::print::task_lines;
 use console::print::refusal;
 use preempt::map::fill_map;
-use rules::Verdict;
+use preempt::tasks::{Tasks, read_tasks};
+use rules::Refusal;
 use std::io;
+use table::table_verdict;
 use through::call::room_left;
 
 // Works out what each task has left over the table's own map, which is left in the rows.
-fn work_out(image: &[u8], reserve: u32, rows: &mut [u64], room: &mut [i64]) -> Verdict
+fn work_out(
+    image: &[u8],
+    reserve: u32,
+    rows: &mut [u64],
+    room: &mut [i64],
+) -> Result<(), Refusal>
     ensures rows_after { rows.new ≡ map_after image.now rows.old }
-    ensures room_left_call { RoomLeftCall image.now rows.new reserve room.old result room.new }
+    ensures room_left_call { RoomLeftCall image.now rows.new reserve room.old (judged result) room.new }
 {
-    fill_map(image, rows);
+    let _ = fill_map(image, rows);
     room_left(image, rows, reserve, room)
+}
+
+// The tasks of a table image, with what each has left in the room.
+fn tasks_with_room<'a>(
+    image: &'a [u8],
+    reserve: u32,
+    room: &mut [i64],
+) -> Result<Tasks<'a>, Refusal> {
+    let mut rows = [0u64; 64];
+    work_out(image, reserve, &mut rows, room)?;
+    Ok(read_tasks(&table_verdict(image)?))
 }
 
 // Prints a line for each task of a table image, or the refusal.
 pub fn report(out: &impl Print, image: &[u8], reserve: u32) -> io::Result<()> {
-    let mut rows = [0u64; 64];
     let mut room = [0i64; 64];
-    let verdict = work_out(image, reserve, &mut rows, &mut room);
-    if verdict.number != 0 {
-        return refusal(out, verdict.number, verdict.place);
+    match tasks_with_room(image, reserve, &mut room) {
+        Ok(tasks) => task_lines(out, &tasks, &room),
+        Err(refused) => refusal(out, refused),
     }
-    task_lines(out, image, &room)
 }
