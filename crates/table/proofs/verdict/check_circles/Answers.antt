@@ -9,7 +9,7 @@ use Rattle.rules.specs.Preempt.{cell}
 use Rattle.rules.specs.Refusals.{refusal, circles}
 use Rattle.rules.proofs.Numbers.{lowest_le}
 use Rattle.table.proofs.Closed.{few_tasks, circle_place, circle_found, circle_none}
-use Rattle.table.proofs.verdict.judge_circles.Goals as goal
+use Rattle.table.proofs.verdict.check_circles.Goals as goal
 
 pub first_circle-place-requires : goal.first_circle-place-requires
 first_circle-place-requires c =
@@ -25,7 +25,7 @@ returns-then-place-tasks c =
     let below : place < task_count rs = omega (arith, c.if-place-tasks.true) in
     let found = sym (circle_place rs rows.new.rows few rows.ensures) ∙ ap (lowest (λ i. cell rows.new.rows i i)) (sym counted) ∙ sym c.first_circle-place.ensures in
     record {
-      verdict = c.refusal.ensures ∙ ap (refusal 14) (c.requires.directory.right place (omega arith)) ∙ sym (circle_found rs place found below);
+      verdict = ap (refusal 14) (c.requires.directory.right place (omega arith)) ∙ sym (circle_found rs place found below);
       before = rows.ensures;
     }
 
