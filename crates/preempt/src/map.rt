@@ -8,22 +8,21 @@ ghost use Rattle.table.specs.Precedence.{before_map};
 ghost use Rattle.preempt.specs.Tasks.{decided_on, decided_by};
 
 use crate::barred::mark_one_way;
-use crate::columns::{Columns, IDS, column_of, period_read, task_read};
+use crate::columns::Columns;
 use crate::decide::may_preempt;
 use crate::tasks::read_tasks;
-use rules::Verdict;
 use sets::bits::{is_set, with_bit_if};
 use sets::rows::both_ways;
-use table::judge_table;
+use table::accepted::Table;
 
 // Whether the task at place i may be preempted by the one at place j; bars holds the places that are barred from it.
 pub fn may_preempt_at(columns: &Columns, bars: u64, i: usize, j: usize) -> bool
     requires { (i < 64) × (j < 64) }
     ensures { result ≡ decided_on columns.now bars i j }
 {
-    let low = task_read(columns, i);
-    let high = task_read(columns, j);
-    may_preempt(period_read(columns, i), is_set(bars, j), low, high)
+    let low = columns.task_read(i);
+    let high = columns.task_read(j);
+    may_preempt(columns.period_read(i), is_set(bars, j), low, high)
 }
 
 // Row i of the map: a bit for each task that may preempt the one at place i.
@@ -67,42 +66,13 @@ pub fn write_rows(map: [u64; 64], lent: &mut [u64])
 }
 
 // The map of an accepted table, of whose tasks before says which come before which.
-fn table_map(image: &[u8], before: [u64; 64]) -> [u64; 64]
-    requires image_value { accepted (table_verdict image.now) ≡ true }
-    requires before_value { before ≡ before_map (records image.now) }
-    ensures { result ≡ map_of (records image.now) }
+fn table_map(table: &Table, before: [u64; 64]) -> [u64; 64]
+    requires { before ≡ before_map (records table.now.image.now) }
+    ensures { result ≡ map_of (records table.now.image.now) }
 {
-    let tasks = read_tasks(image);
+    let tasks = read_tasks(table);
     let mut rows = before;
-    both_ways(&mut rows, tasks.count);
-    mark_one_way(
-        &mut rows,
-        image,
-        column_of(&tasks.columns, IDS),
-        tasks.count,
-    );
-    map_of(&tasks.columns, &rows, tasks.count)
-}
-
-// Fills a lent map from a table image: the verdict, and the map of the table in the first 64 rows. A refusal writes nothing.
-pub fn fill_map(image: &[u8], rows: &mut [u64]) -> Verdict
-    ensures value { result ≡ map_verdict image.now rows.old }
-    ensures rows_after { rows.new ≡ map_after image.now rows.old }
-{
-    let mut before = [0u64; 64];
-    let verdict = judge_table(image, &mut before);
-    if verdict.number != 0 {
-        return verdict;
-    }
-    if rows.len() < 64 {
-        return Verdict {
-            number: 11,
-            place: 0,
-        };
-    }
-    write_rows(table_map(image, before), rows);
-    Verdict {
-        number: 0,
-        place: 0,
-    }
+    both_ways(&mut rows, table.tasks);
+    mark_one_way(&mut rows, table, &tasks.columns.ids);
+    map_of(&tasks.columns, &rows, table.tasks)
 }
