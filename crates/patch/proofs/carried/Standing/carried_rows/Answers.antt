@@ -1,6 +1,6 @@
 use native.Mathlib.Omega.{arith}
 use Rattle.sets.proofs.Maps.{filled_none, filled_more, filled_all}
-use Rattle.patch.proofs.carried.carried_rows.Goals as goal
+use Rattle.patch.proofs.carried.Standing.carried_rows.Goals as goal
 
 pub loop-i-init : goal.loop-i-init
 loop-i-init c = filled_none
