@@ -1,5 +1,5 @@
 // The tasks of a table, read once.
-ghost use Rattle.std.specs.Prelude.{◌≡◌, [], ◌<◌, get_or, Option};
+ghost use Rattle.std.specs.Prelude.{◌≡◌, [], ◌<◌, get_or, unwrap_or, IfSome};
 ghost use Rattle.rules.specs.Blocks.{records};
 ghost use Rattle.rules.specs.Records.{jitter_of, threshold_of, task_of, tasks, place_of, period_in, period_at};
 ghost use Rattle.preempt.specs.Tasks.{TasksRead};
@@ -18,11 +18,14 @@ pub struct Tasks<'a> {
     ghost read: { TasksRead (records table.image.now) table.tasks columns },
 }
 
+// The jitter of a task that is not measured.
+const UNMEASURED: u32 = u32::MAX;
+
 // A jitter, where one that is missing is read as the period of the task's transaction.
 fn jitter_of(period: u32, jitter: u32) -> u32
     ensures { result ≡ jitter_of period jitter }
 {
-    if jitter == 4_294_967_295 {
+    if jitter == UNMEASURED {
         return period;
     }
     jitter
@@ -63,11 +66,16 @@ pub fn task_at(table: &Table, place: usize, period: u32) -> Task
     task_of(period, table.task_record(place))
 }
 
-// The place of the task with this id, or the number of tasks where it is not listed.
-pub fn task_place(table: &Table, id: u32) -> usize
-    ensures { result ≡ place_of (tasks (records table.now.image.now)) id }
+// The place of the task with this id, where one is listed.
+pub fn task_place(table: &Table, id: u32) -> Option<usize>
+    ensures place { unwrap_or result table.now.tasks ≡ place_of (tasks (records table.now.image.now)) id }
+    ensures in_bounds { IfSome result (λ i. i < table.now.tasks) }
 {
-    place_from(table.image, table.transactions, table.tasks, id)
+    let place = place_from(table.image, table.transactions, table.tasks, id);
+    if place == table.tasks {
+        return None;
+    }
+    Some(place)
 }
 
 // The period of the transaction with this number, or 0 where it is not listed.

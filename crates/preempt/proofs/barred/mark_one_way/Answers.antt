@@ -18,4 +18,4 @@ mark_pairs-requires c =
 pub returns : goal.returns
 returns c =
     let t = c.args.table.now in
-    c.mark_pairs.ensures ∙ barred_marked (records t.image.now) c.args.rows.now (shape t).few_tasks c.requires.beside
+    c.mark_pairs.ensures ∙ rw c.from.ensures (barred_marked (records t.image.now) c.args.rows.now (shape t).few_tasks c.requires.beside)
