@@ -13,7 +13,8 @@ use crate::related::{Related, relate};
 use crate::touched::{count_places, touched_tasks};
 use preempt::map::{decided_row, may_preempt_at};
 use preempt::tasks::task_place;
-use sets::bits::{is_set, with_bit_if};
+use sets::bits::is_set;
+use sets::places::{by_place, places_where};
 use table::accepted::Table;
 
 // The new map, and how many tasks are touched.
@@ -31,15 +32,19 @@ pub struct Standing<'a> {
     pub old: [u32; 64],
 }
 
-// Where the base has the tasks of the outcome; the number of its tasks where it has none.
+// Where the base has the task with an id; the number of its tasks where it has none.
+fn old_place(base: &Table, id: u32) -> u32
+    ensures { result ≡ place_of (Records·tasks (records base.now.image.now)) id }
+{
+    task_place(base, id).unwrap_or(base.tasks) as u32
+}
+
+// Where the base has the tasks of the outcome.
 fn old_places(base: &Table, related: &Related) -> [u32; 64]
     ensures { result ≡ column related.now.tasks.table.tasks (λ i. place_of (Records·tasks (records base.now.image.now)) (get_or related.now.tasks.columns.ids i 0)) }
 {
-    let mut places = [0u32; 64];
-    for i in 0..related.tasks.table.tasks {
-        places[i] = task_place(base, related.tasks.columns.ids[i]) as u32;
-    }
-    places
+    let ids = &related.tasks.columns.ids;
+    by_place(related.tasks.table.tasks, 0, |i| old_place(base, ids[i]))
 }
 
 // The row of a lent map at a place. A row that it does not have is 0.
@@ -75,11 +80,9 @@ impl<'a> Standing<'a> {
         requires { i < 64 }
         ensures { result ≡ row_from self.now.related.tasks.table.tasks (cell_carried self.now row i) }
     {
-        let mut bits: u64 = 0;
-        for j in 0..self.related.tasks.table.tasks {
-            bits = with_bit_if(bits, j, self.is_carried_set(row, i, j));
-        }
-        bits
+        places_where(self.related.tasks.table.tasks, |j| {
+            self.is_carried_set(row, i, j)
+        })
     }
 
     // Row i of the new map. Whether its task is touched, so that each of its cells is decided, is asked once for all of them.
@@ -103,11 +106,7 @@ impl<'a> Standing<'a> {
     fn carried_rows(&self, rows: &[u64]) -> [u64; 64]
         ensures { result ≡ map_from self.now.related.tasks.table.tasks (cell_new self.now rows.now) }
     {
-        let mut map = [0u64; 64];
-        for i in 0..self.related.tasks.table.tasks {
-            map[i] = self.new_row(rows, i);
-        }
-        map
+        by_place(self.related.tasks.table.tasks, 0, |i| self.new_row(rows, i))
     }
 }
 
