@@ -12,9 +12,8 @@ fn main(rt: HostRuntime) -> io::Result<()> {
     let mut rows = [0u64; 64];
     let mut ids = [0u16; 64];
     let worked = console::worked::work_out(&mut rt.stdin(), &rt, &mut space, &mut rows, &mut ids)?;
-    if worked.bounds.number == 0 {
-        let length = worked.length;
-        print::neighbours(&rt, &space[..length], &ids, worked.bounds.length as usize)?;
+    if let Ok(found) = worked.bounds {
+        print::neighbours(&rt, &space[..worked.length], &ids[..found.length as usize])?;
     }
     Ok(())
 }

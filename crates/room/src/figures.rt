@@ -13,12 +13,7 @@ use table::table_verdict;
 use through::call::room_left;
 
 // Works out what each task has left over the table's own map, which is left in the rows.
-fn work_out(
-    image: &[u8],
-    reserve: u32,
-    rows: &mut [u64],
-    room: &mut [i64],
-) -> Result<(), Refusal>
+fn work_out(image: &[u8], reserve: u32, rows: &mut [u64], room: &mut [i64]) -> Result<(), Refusal>
     ensures rows_after { rows.new ≡ map_after image.now rows.old }
     ensures room_left_call { RoomLeftCall image.now rows.new reserve room.old (judged result) room.new }
 {

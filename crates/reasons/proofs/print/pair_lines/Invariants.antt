@@ -1,8 +1,6 @@
 -- The place is one of a task.
 use Rattle.std.proofs.Common.{◌<◌}
-use Rattle.rules.specs.Blocks.{records}
-use Rattle.rules.specs.Records.{task_count}
 use Rattle.reasons.proofs.print.pair_lines.Given as goal
 
 abbrev pub invariant-loop-k : goal.invariant-loop-k
-invariant-loop-k g l = l.place < task_count (records l.image)
+invariant-loop-k g l = l.place < l.table.tasks
