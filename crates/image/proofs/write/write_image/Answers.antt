@@ -8,7 +8,7 @@ pub returns-then-records-ne0 : goal.returns-then-records-ne0
 unfolding writable
 returns-then-records-ne0 c =
     let broken = ne_eqb _ _ c.if-records-ne0.true in
-    (rw broken, rw broken)
+    record { length_written = rw broken; not_empty = tt; room_written = rw broken }
 
 pub returns-then-most_blocks-total : goal.returns-then-most_blocks-total
 unfolding writable
@@ -17,7 +17,7 @@ returns-then-most_blocks-total c =
     let many = lt-leb _ _ c.if-most_blocks-total.true in
     let most = c.most_blocks.ensures.0 in
     let total = c.blocks_of-total.ensures in
-    (rw (whole, ← total, ← most, many), rw (whole, ← total, ← most, many))
+    record { length_written = rw (whole, ← total, ← most, many); not_empty = tt; room_written = rw (whole, ← total, ← most, many) }
 
 pub returns-then-room-length : goal.returns-then-room-length
 unfolding writable
@@ -27,7 +27,7 @@ returns-then-room-length c =
     let most = c.most_blocks.ensures.0 in
     let total = c.blocks_of-total.ensures in
     let short = lt-leb _ _ c.if-room-length.true in
-    (rw (whole, ← total, ← most, few, short), rw (whole, ← total, ← most, few, short))
+    record { length_written = rw (whole, ← total, ← most, few, short); not_empty = tt; room_written = rw (whole, ← total, ← most, few, short) }
 
 pub write_blocks-requires : goal.write_blocks-requires
 write_blocks-requires c =
@@ -41,4 +41,8 @@ returns c =
     let most = c.most_blocks.ensures.0 in
     let total = c.blocks_of-total.ensures in
     let fits = le-leb _ _ c.if-room-length.false in
-    (rw (whole, ← total, ← most, few, fits), rw (whole, ← total, ← most, few, fits) c.write_blocks.ensures)
+    record {
+      length_written = rw (whole, ← total, ← most, few, fits);
+      not_empty = omega (arith, total);
+      room_written = rw (whole, ← total, ← most, few, fits) c.write_blocks.ensures;
+    }
