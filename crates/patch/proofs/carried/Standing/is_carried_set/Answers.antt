@@ -1,7 +1,7 @@
 -- A cell with a touched task is decided, and any other is looked up.
 use mathlib.Core.Path.{sym, ◌∙◌}
 use Rattle.patch.specs.Carried.{cell_carried}
-use Rattle.patch.proofs.carried.is_carried_set.Goals as goal
+use Rattle.patch.proofs.carried.Standing.is_carried_set.Goals as goal
 
 pub returns-then-is_set : goal.returns-then-is_set
 unfolding cell_carried
