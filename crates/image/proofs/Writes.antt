@@ -15,6 +15,7 @@ use Rattle.rules.proofs.Numbers.{length-up_to, up_to_ext, up_to_step}
 use Rattle.rules.proofs.Image.Parts.{Records, sized_up_to, length-joined, joined-append, joined_parts, part_up_to}
 use Rattle.rules.proofs.Image.Block.{check_front}
 use Rattle.rules.proofs.Image.Written.{records_of, length_records_of, length-block_of}
+use Rattle.image.proofs.Parts.{part_length}
 use Rattle.image.specs.Write.{header_of, body_bytes}
 
 -- one more byte copied over the start of a list
@@ -48,14 +49,10 @@ length-mark Patch = refl
 length_header : (form : Form) (total b count : ℕ) → length (header_of form total b count) ≡ 8
 length_header form total b count = rw (length-append, length-mark)
 
--- a part that lies within a list is as long as it says
-length_part : (s : List ℕ) (start size : ℕ) → start + size ≤ length s → length (take size (drop start s)) ≡ size
-length_part s start size h = simp (length-take, length-drop) (omega arith)
-
 -- block b of total with the records of these bytes
 module _ (form : Form) (total b : ℕ) (flat : List ℕ) (few : length flat ≤ 480) where
   -- its body is 510 bytes long
-  pub length_body : length (body_bytes form total b flat) ≡ 510
+  length_body : length (body_bytes form total b flat) ≡ 510
   length_body =
       rw (
         length-append (header_of form total b (length flat / 32)) (flat ++ replicate (502 - length flat) 0),
@@ -85,11 +82,19 @@ module _ (form : Form) (total b : ℕ) (flat : List ℕ) (few : length flat ≤ 
       let eight = length_header form total b (length flat / 32) in
       let all : end - 8 ≡ length flat = omega arith in
       let rest : 510 - end ≡ 502 - length flat = omega arith in
-      let fill : zeros ≡ replicate (502 - length flat) 0 = zero ∙ rw (length_part (behind_header headed copied) end (510 - end) (omega arith), rest) in
+      let fill : zeros ≡ replicate (502 - length flat) 0 = zero ∙ rw (part_length (behind_header headed copied) end (510 - end) (omega arith), rest) in
       let first : behind_header headed copied ≡ over (header ++ flat) block = rw (head, copy) (put-over header flat block 8 (end - 8) eight (sym all)) in
       rw (first, fill)
       (put-over (header ++ flat) (replicate (502 - length flat) 0) block end (510 - end) (rw (length-append, eight)) (rw (length-replicate, rest))
       ∙ rw (append_assoc header flat (replicate (502 - length flat) 0)))
+
+-- a block written over with its body, with the check behind that
+pub block_written : (form : Form) (total b : ℕ) (flat block written checked : List ℕ) → length flat ≤ 480
+    → written ≡ over (body_bytes form total b flat) block → checked ≡ with_check (take 510 written)
+    → checked ≡ with_check (body_bytes form total b flat)
+block_written form total b flat block written checked few body check =
+    let bytes : List ℕ = body_bytes form total b flat in
+    check ∙ rw (body, take_at bytes (drop (length bytes) block) 510 (length_body form total b flat few))
 
 -- the check of a block written into its last two bytes
 pub check_written : (block : List ℕ) → length block ≡ 512
@@ -102,7 +107,7 @@ check_written block long =
 
 -- records that lie one after another are 32 bytes each
 cut_sized : (flat : List ℕ) → Records (cut flat)
-cut_sized flat = sized_up_to 32 (λ k. take 32 (drop (32 * k) flat)) (length flat / 32) (λ k l. length_part flat (32 * k) 32 (omega arith))
+cut_sized flat = sized_up_to 32 (λ k. take 32 (drop (32 * k) flat)) (length flat / 32) (λ k l. part_length flat (32 * k) 32 (omega arith))
 
 -- the records of block b, where all records lie one after another
 module _ (flat : List ℕ) (b : ℕ) where
@@ -130,7 +135,7 @@ unfolding block_of
 block_cut form flat b whole inside =
     let w = min (480 * b + 480) (length flat) - 480 * b in
     let n = min 15 (length flat / 32 - 15 * b) in
-    let long : length (take w (drop (480 * b) flat)) ≡ w = length_part flat (480 * b) w (omega arith) in
+    let long : length (take w (drop (480 * b) flat)) ≡ w = part_length flat (480 * b) w (omega arith) in
     let few : w ≡ 32 * n = omega arith in
     let count : w / 32 ≡ n = omega arith in
     rw (

@@ -45,6 +45,7 @@ fn is_length_wrong(form: Form, image: &[u8]) -> bool
 }
 
 // Block b of an image, as a part of it.
+#[tactic(auto, using(crate::proofs::Parts::part_size, crate::proofs::Parts::part_length))]
 fn block_part(image: &[u8], b: usize) -> &[u8]
     requires { b < block_count image.now }
     ensures { (result.now ≡ block_at image.now b) × (length result.now ≡ 512) }
