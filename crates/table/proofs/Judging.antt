@@ -4,12 +4,22 @@ use mathlib.Core.List.{List}
 use mathlib.Core.Bool.{true, false}
 use mathlib.Core.Path.{◌≡◌, ◌∙◌}
 use Rattle.rules.specs.declared.Form.TheVariants.{Table}
+use Rattle.std.specs.Prelude.{Result, IsErrAnd}
+use Rattle.std.proofs.lemmas.Result.{err_from_is_err_and}
 use Rattle.rules.specs.declared.Verdict.{Verdict}
+use Rattle.rules.specs.declared.Refusal.{Refusal}
+use Rattle.rules.specs.Told.{judged, verdict_of}
 use Rattle.rules.specs.Blocks.{records}
 use Rattle.rules.specs.Refusals.{accepted, or_else, frame_verdict, records_verdict, reference_refusal, link_refusal, table_verdict}
 use Rattle.rules.proofs.Refusals.{zero_accepted, accepted_first, accepted_parts, accepted-or_else, linked_references}
 use Rattle.table.specs.Judged.{earlier_verdict, Judges}
 use Rattle.table.specs.Precedence.{before_map}
+
+-- a refusal that is handed on by `?` is told as it was
+pub handed_on : {T : Type 0} {v : Verdict} (r : Result T Refusal) (e : Refusal) → IsErrAnd r (λ y. y ≡ e) → verdict_of e ≡ v → judged r ≡ v
+handed_on r e is told =
+    let p = err_from_is_err_and r is in
+    rw (p.1, p.2) told
 
 -- the first of two checks that refuses is the verdict of both, and where it does not the second is
 pub judges_first : (v w e : Verdict) (rs : List (List ℕ)) (told : Verdict) (rows : List ℕ) → accepted v ≡ false → told ≡ v → Judges (or_else v w) (or_else v e) rs told rows rows

@@ -3,3 +3,4 @@ pub mod Places
 pub mod Pairing
 pub mod Closed
 pub mod Judging
+pub mod Tables

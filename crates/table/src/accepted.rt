@@ -1,7 +1,8 @@
 // Accepted images: a table, whose records are asked for by kind and place, and a patch.
 ghost use Rattle.std.specs.Prelude.{◌≡◌, true, [], ◌<◌, length, get_or};
+ghost use Rattle.rules.specs.Numbers.{Bytes};
 ghost use Rattle.rules.specs.Blocks.{records};
-ghost use Rattle.rules.specs.Records.{of_kind, transactions as Records·transactions, tasks as Records·tasks};
+ghost use Rattle.rules.specs.Records.{transactions as Records·transactions, tasks as Records·tasks, pairs as Records·pairs};
 ghost use Rattle.rules.specs.Refusals.{accepted as Refusals·accepted, table_verdict, patch_verdict};
 
 use image::records::record_at;
@@ -13,16 +14,18 @@ pub struct Table<'a> {
     pub transactions: usize,
     pub tasks: usize,
     pub pairs: usize,
+    ghost bytes: { Bytes image.now },
     ghost accepted: { Refusals·accepted (table_verdict image.now) ≡ true },
     ghost transactions_counted: { transactions ≡ length (Records·transactions (records image.now)) },
     ghost tasks_counted: { tasks ≡ length (Records·tasks (records image.now)) },
-    ghost pairs_counted: { pairs ≡ length (of_kind 3 (records image.now)) },
+    ghost pairs_counted: { pairs ≡ length (Records·pairs (records image.now)) },
 }
 
 // An accepted patch image.
 #[derive(Clone, Copy)]
 pub struct Patch<'a> {
     pub image: &'a [u8],
+    ghost bytes: { Bytes image.now },
     ghost accepted: { Refusals·accepted (patch_verdict image.now) ≡ true },
 }
 
@@ -46,7 +49,7 @@ impl<'a> Table<'a> {
     // The record of the pair at a place.
     pub fn pair_record(&self, place: usize) -> &'a [u8]
         requires { place < self.now.pairs }
-        ensures { result.now ≡ get_or (of_kind 3 (records self.now.image.now)) place [] }
+        ensures { result.now ≡ get_or (Records·pairs (records self.now.image.now)) place [] }
     {
         record_at(self.image, self.transactions + self.tasks + place)
     }

@@ -19,9 +19,7 @@ use table::table_verdict;
 fn left_of(reserve: u32, weight: u32) -> i64
     ensures { result ≡ sub_ℕ reserve weight }
 {
-    let whole = reserve as i64;
-    let part = weight as i64;
-    whole - part
+    i64::from(reserve) - i64::from(weight)
 }
 
 // Writes what each weight leaves of the reserve over the start of the room.
@@ -29,11 +27,8 @@ fn write_figures(weights: &[u32], count: usize, reserve: u32, room: &mut [i64])
     requires { (count ≤ 64) × (length weights.now ≡ 64) × (64 ≤ length room.old) }
     ensures { room.new ≡ over (up_to (λ i. sub_ℕ reserve (get_or weights.now i 0)) count) room.old }
 {
-    let mut place: usize = 0;
-    while place < count {
-        let left = left_of(reserve, weights[place]);
-        room[place] = left;
-        place += 1;
+    for place in 0..count {
+        room[place] = left_of(reserve, weights[place]);
     }
 }
 

@@ -1,59 +1,91 @@
 -- A refused frame or record list hides what comes after it.
+use mathlib.Core.List.{List, []}
+use Prim.Native.Nat.{ℕ}
+use mathlib.Core.Bool.{true, false}
+use mathlib.Core.Path.{◌≡◌, refl, sym, ◌∙◌}
 use Rattle.rules.specs.declared.Form.TheVariants.{Table}
+use Rattle.rules.specs.declared.Verdict.{Verdict}
 use Rattle.rules.specs.Blocks.{records}
-use Rattle.rules.specs.Refusals.{or_else, frame_verdict, records_verdict, reference_refusal, link_refusal, table_verdict}
-use Rattle.rules.proofs.Refusals.{zero_accepted, other_refused}
+use Rattle.rules.specs.Refusals.{accepted, fine, or_else, frame_verdict, records_verdict, reference_refusal, link_refusal, table_verdict}
+use Rattle.rules.proofs.Judged.{is_refused}
+use Rattle.table.specs.Judged.{Judges, earlier_verdict}
 use Rattle.table.proofs.Counts.{records_few, records_held}
-use Rattle.table.proofs.Judging.{judges_first, judges_second}
+use Rattle.table.proofs.Judging.{handed_on, judges_first, judges_second}
 use Rattle.table.proofs.verdict.judge_table.Goals as goal
 
-pub returns-then-frame-ne0 : goal.returns-then-frame-ne0
+module _ (image rows later : List ℕ) (told : Verdict) where
+  -- the frame refuses
+  by_frame : accepted (frame_verdict Table image) ≡ false → told ≡ frame_verdict Table image → Judges (table_verdict image) (earlier_verdict image) (records image) told rows rows
+  unfolding table_verdict
+  by_frame =
+      let rs = records image in
+      judges_first (frame_verdict Table image) (or_else (records_verdict Table rs) (link_refusal rs)) (or_else (records_verdict Table rs) (reference_refusal rs)) rs told rows
+
+  -- it does not, and the records do
+  by_records : fine ≡ frame_verdict Table image → accepted (records_verdict Table (records image)) ≡ false → told ≡ records_verdict Table (records image)
+      → Judges (table_verdict image) (earlier_verdict image) (records image) told rows rows
+  unfolding table_verdict
+  by_records framed refuses same =
+      let rs = records image in
+      rw (← framed) (judges_first (records_verdict Table rs) (link_refusal rs) (reference_refusal rs) rs told rows refuses same)
+
+  -- neither does
+  by_links : fine ≡ frame_verdict Table image → fine ≡ records_verdict Table (records image) → Judges (link_refusal (records image)) (reference_refusal (records image)) (records image) told rows later
+      → Judges (table_verdict image) (earlier_verdict image) (records image) told rows later
+  unfolding table_verdict
+  by_links framed formed links = rw (← framed, ← formed) links
+
+pub returns-in_err-check_frame-clause-judges : goal.returns-in_err-check_frame-clause-judges
+returns-in_err-check_frame-clause-judges c =
+    let e = c.in_err-check_frame.field-0.0 in
+    by_frame c.args.image.now c.args.before.now [] _ (rw (← c.in_err-check_frame.ensures) (is_refused e)) (handed_on c.from_residual.result e c.from_residual.ensures.1 c.in_err-check_frame.ensures)
+
+pub check_records-requires : goal.check_records-requires
+check_records-requires c =
+    let image = c.args.image.now in
+    let framed : accepted (frame_verdict Table image) ≡ true = rw (← c.in_ok-check_frame.ensures) in
+    record { few = records_few Table image framed; held = records_held Table image framed }
+
+pub returns-in_err-check_records-clause-judges : goal.returns-in_err-check_records-clause-judges
+returns-in_err-check_records-clause-judges c =
+    let e = c.in_err-check_records.field-0.0 in
+    by_records c.args.image.now c.args.before.now [] _ c.in_ok-check_frame.ensures (rw (← c.in_err-check_records.ensures) (is_refused e))
+    (handed_on c.from_residual-in_err-check_records.result e c.from_residual-in_err-check_records.ensures.1 c.in_err-check_records.ensures)
+
+pub check_links-requires : goal.check_links-requires
+check_links-requires c =
+    let image = c.args.image.now in
+    let framed : accepted (frame_verdict Table image) ≡ true = rw (← c.in_ok-check_frame.ensures) in
+    record { few = records_few Table image framed; image_value = rw (← c.in_ok-check_records.ensures); held = records_held Table image framed; before_value = c.requires }
+
+pub returns-in_err-check_links-clause-judges : goal.returns-in_err-check_links-clause-judges
+returns-in_err-check_links-clause-judges c =
+    let e = c.in_err-check_links.field-0.0 in
+    let links = c.check_links.ensures in
+    by_links c.args.image.now c.args.before.now c.check_links.new.before _ c.in_ok-check_frame.ensures c.in_ok-check_records.ensures
+    (record { verdict = handed_on c.from_residual-in_err-check_links.result e c.from_residual-in_err-check_links.ensures.1 c.in_err-check_links.ensures.verdict; before = links.before })
+
+pub returns-clause-judges : goal.returns-clause-judges
+returns-clause-judges c =
+    by_links c.args.image.now c.args.before.now c.check_links.new.before _ c.in_ok-check_frame.ensures c.in_ok-check_records.ensures
+    (record { verdict = c.in_ok-check_links.ensures.verdict; before = c.check_links.ensures.before })
+
+pub count_kind-requires-clause-holds_records : goal.count_kind-requires-clause-holds_records
+count_kind-requires-clause-holds_records c = records_held Table c.args.image.now (rw (← c.in_ok-check_frame.ensures))
+
+pub count_kind-requires-2-clause-holds_records : goal.count_kind-requires-2-clause-holds_records
+count_kind-requires-2-clause-holds_records c = records_held Table c.args.image.now (rw (← c.in_ok-check_frame.ensures))
+
+pub count_kind-requires-3-clause-holds_records : goal.count_kind-requires-3-clause-holds_records
+count_kind-requires-3-clause-holds_records c = records_held Table c.args.image.now (rw (← c.in_ok-check_frame.ensures))
+
+pub invariant_of-result : goal.invariant_of-result
 unfolding table_verdict
-returns-then-frame-ne0 c =
-    let image = c.args.image.now in
-    let rs = records image in
-    let frame = c.frame_verdict-frame in
-    judges_first (frame_verdict Table image) (or_else (records_verdict Table rs) (link_refusal rs)) (or_else (records_verdict Table rs) (reference_refusal rs)) rs frame.result c.args.before.now
-    (other_refused frame.result (frame_verdict Table image) frame.ensures c.if-frame-ne0.true)
-    frame.ensures
-
-pub records_verdict-body-requires : goal.records_verdict-body-requires
-records_verdict-body-requires c =
-    let image = c.args.image.now in
-    let framed = zero_accepted c.frame_verdict-frame.result (frame_verdict Table image) c.frame_verdict-frame.ensures c.if-frame-ne0.false in record { image_bound = records_few Table image framed; holds_records = records_held Table image framed }
-
-pub returns-then-body-ne0 : goal.returns-then-body-ne0
-unfolding table_verdict
-returns-then-body-ne0 c =
-    let image = c.args.image.now in
-    let rs = records image in
-    let frame = c.frame_verdict-frame in
-    let body = c.records_verdict-body in
-    let rows = c.args.before.now in
-    judges_second (frame_verdict Table image) (or_else (records_verdict Table rs) (link_refusal rs)) (or_else (records_verdict Table rs) (reference_refusal rs)) rs body.result rows rows
-    (zero_accepted frame.result (frame_verdict Table image) frame.ensures c.if-frame-ne0.false)
-    (judges_first (records_verdict Table rs) (link_refusal rs) (reference_refusal rs) rs body.result rows
-    (other_refused body.result (records_verdict Table rs) body.ensures c.if-body-ne0.true)
-    body.ensures)
-
-pub judge_links-requires : goal.judge_links-requires
-judge_links-requires c =
-    let image = c.args.image.now in
-    let frame = c.frame_verdict-frame in
-    let body = c.records_verdict-body in
-    let framed = zero_accepted frame.result (frame_verdict Table image) frame.ensures c.if-frame-ne0.false in record { image_bound = records_few Table image framed; image_value = zero_accepted body.result (records_verdict Table (records image)) body.ensures c.if-body-ne0.false; holds_records = records_held Table image framed; before_value = c.requires }
-
-pub returns : goal.returns
-unfolding table_verdict
-returns c =
-    let image = c.args.image.now in
-    let rs = records image in
-    let frame = c.frame_verdict-frame in
-    let body = c.records_verdict-body in
-    let rows = c.args.before.now in
-    let later = c.judge_links.new.before in
-    judges_second (frame_verdict Table image) (or_else (records_verdict Table rs) (link_refusal rs)) (or_else (records_verdict Table rs) (reference_refusal rs)) rs c.judge_links.result rows later
-    (zero_accepted frame.result (frame_verdict Table image) frame.ensures c.if-frame-ne0.false)
-    (judges_second (records_verdict Table rs) (link_refusal rs) (reference_refusal rs) rs c.judge_links.result rows later
-    (zero_accepted body.result (records_verdict Table rs) body.ensures c.if-body-ne0.false)
-    c.judge_links.ensures)
+invariant_of-result c =
+    record {
+      bytes = λ k. (c.type_inv.image k).fits;
+      accepted = rw (← c.in_ok-check_frame.ensures, ← c.in_ok-check_records.ensures, ← c.in_ok-check_links.ensures.verdict);
+      transactions_counted = c.count_kind.ensures.0;
+      tasks_counted = c.count_kind-2.ensures.0;
+      pairs_counted = c.count_kind-3.ensures.0;
+    }

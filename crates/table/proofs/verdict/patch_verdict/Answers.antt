@@ -1,21 +1,36 @@
 -- A refused frame hides what comes after it.
 use mathlib.Core.Bool.{true}
-use mathlib.Core.Path.{◌≡◌}
-use borrow.Author.Tests.{eq-eqb, ne_eqb}
+use mathlib.Core.Path.{◌≡◌, refl, sym, ◌∙◌}
 use Rattle.rules.specs.declared.Form.TheVariants.{Patch}
 use Rattle.rules.specs.Refusals.{accepted, frame_verdict, patch_verdict}
+use Rattle.rules.proofs.Judged.{is_refused}
 use Rattle.table.proofs.Counts.{records_few, records_held}
+use Rattle.table.proofs.Judging.{handed_on}
 use Rattle.table.proofs.verdict.patch_verdict.Goals as goal
 
-pub returns-then-frame-ne0 : goal.returns-then-frame-ne0
+pub returns-in_err-check_frame-clause-told : goal.returns-in_err-check_frame-clause-told
 unfolding patch_verdict
-returns-then-frame-ne0 c = rw (← c.frame_verdict-frame.ensures, ne_eqb _ _ c.if-frame-ne0.true)
+returns-in_err-check_frame-clause-told c =
+    let e = c.in_err-check_frame.field-0.0 in
+    handed_on c.from_residual.result e c.from_residual.ensures.1 (rw (← c.in_err-check_frame.ensures, is_refused e))
 
-pub records_verdict-requires : goal.records_verdict-requires
-records_verdict-requires c =
+pub check_records-requires : goal.check_records-requires
+check_records-requires c =
     let image = c.args.image.now in
-    let framed : accepted (frame_verdict Patch image) ≡ true = rw (← c.frame_verdict-frame.ensures) (eq-eqb _ _ c.if-frame-ne0.false) in record { image_bound = records_few Patch image framed; holds_records = records_held Patch image framed }
+    let framed : accepted (frame_verdict Patch image) ≡ true = rw (← c.in_ok-check_frame.ensures) in
+    record { few = records_few Patch image framed; held = records_held Patch image framed }
 
-pub returns : goal.returns
+pub returns-in_err-check_records-clause-told : goal.returns-in_err-check_records-clause-told
 unfolding patch_verdict
-returns c = rw (← c.frame_verdict-frame.ensures, eq-eqb _ _ c.if-frame-ne0.false) c.records_verdict.ensures
+returns-in_err-check_records-clause-told c =
+    let e = c.in_err-check_records.field-0.0 in
+    handed_on c.from_residual-in_err-check_records.result e c.from_residual-in_err-check_records.ensures.1 (rw (← c.in_ok-check_frame.ensures) c.in_err-check_records.ensures)
+
+pub invariant_of-result : goal.invariant_of-result
+unfolding patch_verdict
+invariant_of-result c =
+    record { bytes = λ k. (c.type_inv.image k).fits; accepted = rw (← c.in_ok-check_frame.ensures, ← c.in_ok-check_records.ensures) }
+
+pub returns-clause-told : goal.returns-clause-told
+unfolding patch_verdict
+returns-clause-told c = rw (← c.in_ok-check_frame.ensures, ← c.in_ok-check_records.ensures)

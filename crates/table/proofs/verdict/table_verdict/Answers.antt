@@ -6,4 +6,4 @@ pub judge_table-requires : goal.judge_table-requires
 judge_table-requires c = refl
 
 pub returns : goal.returns
-returns c = c.judge_table.ensures.verdict
+returns c = record { told = c.judge_table.ensures.judges.verdict; of_image = c.judge_table.ensures.of_image }
