@@ -32,7 +32,8 @@ fn is_length_wrong(form: Form, image: &[u8]) -> bool
 #[tactic(auto, using(crate::proofs::Parts::part_size, crate::proofs::Parts::part_length))]
 fn block_part(image: &[u8], b: usize) -> &[u8]
     requires { b < block_count image.now }
-    ensures { (result.now ≡ block_at image.now b) × (length result.now ≡ 512) }
+    ensures right { result.now ≡ block_at image.now b }
+    ensures whole { length result.now ≡ 512 }
 {
     let start = rules::BLOCK_BYTES * b;
     let end = start + rules::BLOCK_BYTES;
