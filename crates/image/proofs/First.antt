@@ -5,7 +5,16 @@ use mathlib.Core.Path.{◌≡◌, sym}
 use native.Mathlib.Omega.{arith}
 use borrow.Author.Tests.{lt-ltb, ltb-true, ltb-false}
 use Rattle.std.specs.Prelude.{Option, Some, None}
+use Rattle.std.specs.Bool.{⊤}
+use Rattle.std.specs.Fn.{CalledAt}
+use Rattle.std.specs.Iterator.{YieldsThen}
+use Rattle.std.specs.List.{FoldsTo}
 use Rattle.std.specs.Option.{MatchOption}
+use Rattle.std.proofs.iter.Yields.{nat_range_steps}
+use Rattle.std.proofs.lemmas.Iterator.{first_from_Range}
+use mathlib.Core.List.{List}
+use denote.Param.Members.{Mut}
+use denote.Ref.{Bor}
 use Rattle.std.proofs.lemmas.Option.{none-some, same_Some}
 use Rattle.rules.specs.Numbers.{lowest, some}
 use Rattle.rules.proofs.Numbers.{either, lowest_le, lowest_here, lowest-none, some_false}
@@ -24,6 +33,17 @@ first_found test n None fails = rw (some_false test n (lowest-none test n (λ k 
 first_found test n (Some i) (low, below, passes, fails) =
     let here = lowest_here test i n (lowest-none test i (λ k h. fails k (omega arith) h)) passes below in
     rw (here, lt-ltb i n below)
+
+-- `find` over the numbers below n, of a closure that answers as the test does
+pub first_in_range : {F : Type 0} {g : Mut F (Bor ℕ × Unit {0}) Bool} (test : ℕ → Bool) (n : ℕ) (u : _) (f : F) (r : Option ℕ)
+    → (xs : List ℕ) × (j : F) × YieldsThen nat_range_steps (record { start = 0; end = n }) xs r u × FoldsTo (λ p x q. CalledAt g p x false q) f xs j × MatchOption r ⊤ (λ x. (h : F) × CalledAt g j x true h)
+    → ((x : ℕ) (answer : Bool) (q : F) → CalledAt g f x answer q → (q ≡ f) × (answer ≡ test x))
+    → r ≡ first test n
+first_in_range test n u f r ran answers =
+    first_found test n r
+    (first_from_Range _ _ _ _ (λ k. test k ≡ true) (λ k. test k ≡ false) ran
+    (λ x q called. sym (answers x true q called).1)
+    (λ x q called. ((answers x false q called).0, sym (answers x false q called).1)))
 
 -- where it finds a number, that is the lowest, and where it finds none, the lowest is n
 pub first-lowest : (test : ℕ → Bool) (n i : ℕ) → Some i ≡ first test n → (lowest test n ≡ i) × (i < n)

@@ -39,13 +39,9 @@ fn is_length_wrong(form: Form, image: &[u8]) -> bool
     ensures { result ≡ length_wrong form image.now }
 {
     let length = image.len();
-    if length == 0 {
-        return true;
-    }
-    if length % rules::BLOCK_BYTES != 0 {
-        return true;
-    }
-    most_blocks(form) < length / rules::BLOCK_BYTES
+    length == 0
+        || length % rules::BLOCK_BYTES != 0
+        || most_blocks(form) < length / rules::BLOCK_BYTES
 }
 
 // Block b of an image, as a part of it.
@@ -76,6 +72,7 @@ fn first_wrong_header(form: Form, image: &[u8]) -> Option<usize>
 }
 
 // What is wrong with the blocks, if anything: length, then checks, then headers, each over the whole image before the next.
+#[tactic(auto, using(crate::proofs::First::refuse_at_first, crate::proofs::First::refuse_at_no_first), unfolding(rules::specs::Refusals::frame_verdict))]
 pub fn frame_verdict(form: Form, image: &[u8]) -> Result<(), Refusal>
     ensures { judged result ≡ frame_verdict form image.now }
 {

@@ -4,7 +4,7 @@ ghost use Rattle.rules.specs.Blocks.{mark, blocks_for, with_check, image_of};
 ghost use Rattle.rules.specs.Calls.{over, cut, blocks_of, written_length, written_room};
 ghost use Rattle.image.specs.Write.{header_of, body_bytes};
 
-use crate::block::check_of;
+use crate::block::{check_of, mark};
 use crate::frame::most_blocks;
 use rules::Form;
 
@@ -17,16 +17,6 @@ pub fn copy_bytes(from: &[u8], to: &mut [u8])
     ensures { to.new ≡ over from.now to.old }
 {
     to[..from.len()].copy_from_slice(from);
-}
-
-// The letters of the form.
-fn mark(form: Form) -> [u8; 2]
-    ensures { result ≡ mark form }
-{
-    match form {
-        Form::Table => *b"TB",
-        Form::Patch => *b"PA",
-    }
 }
 
 // Writes the header of block b of total over the start of the block.
@@ -51,6 +41,7 @@ fn write_body(form: Form, total: u8, b: u8, records: &[u8], block: &mut [u8])
 }
 
 // Writes the check that the first 510 bytes call for into the last two.
+#[tactic(auto, using(crate::proofs::Writes::check_written))]
 fn write_check(block: &mut [u8])
     requires { length block.old ≡ 512 }
     ensures { block.new ≡ with_check (take 510 block.old) }
@@ -100,6 +91,7 @@ fn blocks_of(bytes: usize) -> usize
 // Writes the image of the records that lie one after another, 32 bytes each, over the start of the room, and answers
 // its length in bytes. Writes nothing where the bytes are no whole records, or fill more blocks than the form may have
 // or the room holds.
+#[tactic(auto, unfolding(rules::specs::Calls::writable))]
 pub fn write_image(form: Form, records: &[u8], room: &mut [u8]) -> Option<usize>
     ensures length_written { unwrap_or result 0 ≡ written_length form records.now room.old }
     ensures not_empty { IfSome result (λ length. 0 < length) }

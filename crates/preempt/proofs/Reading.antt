@@ -1,10 +1,9 @@
--- What was read is the table's, field by field: column m has its number at 64 * m and the task's place.
-use Prim.Native.Nat.{ℕ, ◌+◌, ◌*◌, ◌≤◌, ◌<◌}
+-- What was read is the table's, field by field.
+use Prim.Native.Nat.{ℕ, ◌+◌, ◌≤◌, ◌<◌}
 use mathlib.Core.List.{List, []}
 use mathlib.Core.Path.{◌≡◌, refl, ap, sym, ◌∙◌}
 use native.Mathlib.Omega.{arith}
-use lib.ListN.{get_or, drop, take-append-drop, drop_of_length-le, get_or-eq_default}
-use lib.Seq.{get_or-take, get_or-drop, drop-drop}
+use lib.ListN.{get_or, set, get_or-eq_default}
 use Rattle.rules.specs.declared.Task.{Task}
 use Rattle.rules.specs.Records.{number_of, second_of, tasks, task_count, task_of, task_at, period_in, period_at}
 use Rattle.rules.specs.Preempt.{barred as Preempt·barred, decided, cell, map_from, map_of}
@@ -13,23 +12,50 @@ use Rattle.rules.proofs.Table.Shape.{Shape}
 use Rattle.rules.proofs.Maps.{cell_of_map, map_ext}
 use Rattle.table.specs.Numbers.{Directory}
 use Rattle.sets.specs.Bits.{column}
-use Rattle.preempt.specs.Tasks.{column_in, id_column, transaction_column, priority_column, size_column, threshold_column, TasksRead, barred_map, task_read, decided_on, decided_by}
-use Rattle.sets.proofs.Columns.{column_long, column_at, column_total}
+use Rattle.sets.proofs.Columns.{column_long, column-none, column_at, column_filled, column_total}
+use Rattle.preempt.specs.declared.columns.Columns.{Columns}
+use Rattle.preempt.specs.Tasks.{ColumnsTo, TasksRead, no_columns, with_task, barred_map, task_read, decided_on, decided_by}
+
+-- nothing is read of no task
+pub columns_none : (rs : List (List ℕ)) → ColumnsTo rs 0 no_columns
+columns_none rs =
+    record {
+      ids = column-none (λ i. (task_at rs i).id);
+      transactions = column-none (λ i. (task_at rs i).transaction);
+      priorities = column-none (λ i. (task_at rs i).priority);
+      offsets = column-none (λ i. (task_at rs i).offset);
+      jitters = column-none (λ i. (task_at rs i).jitter);
+      responses = column-none (λ i. (task_at rs i).response);
+      sizes = column-none (λ i. (task_at rs i).size);
+      thresholds = column-none (λ i. (task_at rs i).threshold);
+      periods = column-none (period_at rs);
+    }
+
+-- and one task more fills one place more of each column
+pub columns_more : (rs : List (List ℕ)) (i : ℕ) (columns : Columns) (task : Task) (period : ℕ) → i < 64 → ColumnsTo rs i columns → task ≡ task_at rs i → period ≡ period_at rs i
+    → ColumnsTo rs (i + 1) (with_task columns i task period)
+columns_more rs i columns task period inside so_far here own =
+    record {
+      ids = more (λ t. t.id) columns.ids so_far.ids;
+      transactions = more (λ t. t.transaction) columns.transactions so_far.transactions;
+      priorities = more (λ t. t.priority) columns.priorities so_far.priorities;
+      offsets = more (λ t. t.offset) columns.offsets so_far.offsets;
+      jitters = more (λ t. t.jitter) columns.jitters so_far.jitters;
+      responses = more (λ t. t.response) columns.responses so_far.responses;
+      sizes = more (λ t. t.size) columns.sizes so_far.sizes;
+      thresholds = more (λ t. t.threshold) columns.thresholds so_far.thresholds;
+      periods = column_filled i (period_at rs) columns.periods period inside so_far.periods own;
+    }
+  where
+    more : (field : Task → ℕ) (l : List ℕ) → l ≡ column i (λ k. field (task_at rs k)) → set l i (field task) ≡ column (i + 1) (λ k. field (task_at rs k))
+    more field l filled = column_filled i (λ k. field (task_at rs k)) l (field task) inside filled (ap field here)
 
 -- a field of the task at a place that holds one
 field_at : (rs : List (List ℕ)) (l : List ℕ) (f : ℕ → ℕ) → Shape rs → l ≡ column (task_count rs) f → (i : ℕ) → i < task_count rs → get_or l i 0 ≡ f i
 field_at rs l f shape e i h = ap (λ (c : List ℕ). get_or c i 0) e ∙ column_at (task_count rs) f i shape.few_tasks h
 
--- the same where it is read in one of the columns
-part_at : (rs : List (List ℕ)) (columns : List ℕ) (m : ℕ) (f : ℕ → ℕ) → Shape rs → column_in m columns ≡ column (task_count rs) f → (i : ℕ)
-    → i < task_count rs → get_or columns (64 * m + i) 0 ≡ f i
-part_at rs columns m f shape e i h =
-    sym (get_or-drop (64 * m) columns i 0)
-    ∙ sym (get_or-take 64 (drop (64 * m) columns) i 0 (omega (arith, shape.few_tasks)))
-    ∙ field_at rs (column_in m columns) f shape e i h
-
 -- there are at most 64 tasks
-pub few_read : (rs : List (List ℕ)) (count : ℕ) (columns : List ℕ) → Shape rs → TasksRead rs count columns → count ≤ 64
+pub few_read : (rs : List (List ℕ)) (count : ℕ) (columns : Columns) → Shape rs → TasksRead rs count columns → count ≤ 64
 few_read rs count columns shape read = omega (arith, read.count, shape.few_tasks)
 
 -- a field that an empty record has at 0 is read the same at every place
@@ -42,49 +68,35 @@ field_total rs field l few none read i =
     i
 
 -- columns that others ask, at every place
-module _ (rs : List (List ℕ)) (count : ℕ) (columns : List ℕ) (shape : Shape rs) (read : TasksRead rs count columns) where
-  pub id_is : (i : ℕ) → get_or (id_column columns) i 0 ≡ id_at rs i
-  id_is = field_total rs (λ task. task.id) (id_column columns) shape.few_tasks refl read.columns.ids
+module _ (rs : List (List ℕ)) (count : ℕ) (columns : Columns) (shape : Shape rs) (read : TasksRead rs count columns) where
+  pub id_is : (i : ℕ) → get_or columns.ids i 0 ≡ id_at rs i
+  id_is = field_total rs (λ task. task.id) columns.ids shape.few_tasks refl read.columns.ids
 
-  pub transaction_is : (i : ℕ) → get_or (transaction_column columns) i 0 ≡ (task_at rs i).transaction
-  transaction_is = field_total rs (λ task. task.transaction) (transaction_column columns) shape.few_tasks refl read.columns.transactions
+  pub transaction_is : (i : ℕ) → get_or columns.transactions i 0 ≡ (task_at rs i).transaction
+  transaction_is = field_total rs (λ task. task.transaction) columns.transactions shape.few_tasks refl read.columns.transactions
 
-  pub priority_is : (i : ℕ) → get_or (priority_column columns) i 0 ≡ priority_at rs i
-  priority_is = field_total rs (λ task. task.priority) (priority_column columns) shape.few_tasks refl read.columns.priorities
+  pub priority_is : (i : ℕ) → get_or columns.priorities i 0 ≡ priority_at rs i
+  priority_is = field_total rs (λ task. task.priority) columns.priorities shape.few_tasks refl read.columns.priorities
 
-  pub size_is : (i : ℕ) → get_or (size_column columns) i 0 ≡ size_at rs i
-  size_is = field_total rs (λ task. task.size) (size_column columns) shape.few_tasks refl read.columns.sizes
+  pub size_is : (i : ℕ) → get_or columns.sizes i 0 ≡ size_at rs i
+  size_is = field_total rs (λ task. task.size) columns.sizes shape.few_tasks refl read.columns.sizes
 
-  pub threshold_is : (i : ℕ) → get_or (threshold_column columns) i 0 ≡ (task_at rs i).threshold
-  threshold_is = field_total rs (λ task. task.threshold) (threshold_column columns) shape.few_tasks refl read.columns.thresholds
+  pub threshold_is : (i : ℕ) → get_or columns.thresholds i 0 ≡ (task_at rs i).threshold
+  threshold_is = field_total rs (λ task. task.threshold) columns.thresholds shape.few_tasks refl read.columns.thresholds
 
--- two lists that agree in one column, and behind it, agree from that column on
-same_from : (m : ℕ) (l k : List ℕ) → column_in m l ≡ column_in m k → drop (64 * m + 64) l ≡ drop (64 * m + 64) k → drop (64 * m) l ≡ drop (64 * m) k
-same_from m l k here behind =
-    let rest : drop 64 (drop (64 * m) l) ≡ drop 64 (drop (64 * m) k) = drop-drop 64 (64 * m) l ∙ behind ∙ sym (drop-drop 64 (64 * m) k) in
-    sym (take-append-drop 64 (drop (64 * m) l)) ∙ rw (here, rest) (take-append-drop 64 (drop (64 * m) k))
-
--- so a table can be read in one way only
-pub tasks_determined : (rs : List (List ℕ)) (n m : ℕ) (l k : List ℕ) → TasksRead rs n l → TasksRead rs m k → (n ≡ m) × (l ≡ k)
+-- a table can be read in one way only
+pub tasks_determined : (rs : List (List ℕ)) (n m : ℕ) (l k : Columns) → TasksRead rs n l → TasksRead rs m k → (n ≡ m) × (l ≡ k)
 tasks_determined rs n m l k p q =
     let a = p.columns in
-    let b = q.columns in
-    let none : drop 576 l ≡ drop 576 k =
-    drop_of_length-le l {i = 576} (omega (arith, a.whole)) ∙ sym (drop_of_length-le k {i = 576} (omega (arith, b.whole))) in
-    let periods = same_from 8 l k (a.periods ∙ sym b.periods) none in
-    let thresholds = same_from 7 l k (a.thresholds ∙ sym b.thresholds) periods in
-    let sizes = same_from 6 l k (a.sizes ∙ sym b.sizes) thresholds in
-    let responses = same_from 5 l k (a.responses ∙ sym b.responses) sizes in
-    let jitters = same_from 4 l k (a.jitters ∙ sym b.jitters) responses in
-    let offsets = same_from 3 l k (a.offsets ∙ sym b.offsets) jitters in
-    let priorities = same_from 2 l k (a.priorities ∙ sym b.priorities) offsets in
-    let transactions = same_from 1 l k (a.transactions ∙ sym b.transactions) priorities in
-    (p.count ∙ sym q.count, same_from 0 l k (a.ids ∙ sym b.ids) transactions)
+    let b = q.columns in (
+      p.count ∙ sym q.count,
+      rw (a.ids, a.transactions, a.priorities, a.offsets, a.jitters, a.responses, a.sizes, a.thresholds, a.periods, b.ids, b.transactions, b.priorities, b.offsets, b.jitters, b.responses, b.sizes, b.thresholds, b.periods) refl,
+    )
 
 -- the ids are a directory of the tasks
-pub ids_directory : (rs : List (List ℕ)) (count : ℕ) (columns : List ℕ) → Shape rs → TasksRead rs count columns → Directory (tasks rs) (id_column columns) count
+pub ids_directory : (rs : List (List ℕ)) (count : ℕ) (columns : Columns) → Shape rs → TasksRead rs count columns → Directory (tasks rs) columns.ids count
 ids_directory rs count columns shape read =
-    let id : (i : ℕ) → get_or (id_column columns) i 0 ≡ number_of (get_or (tasks rs) i []) = id_is rs count columns shape read in
+    let id : (i : ℕ) → get_or columns.ids i 0 ≡ number_of (get_or (tasks rs) i []) = id_is rs count columns shape read in
     record {
       counted = read.count;
       room = omega (arith, few_read rs count columns shape read, column_long _ _ read.columns.ids);
@@ -96,20 +108,20 @@ ids_directory rs count columns shape read =
     }
 
 -- what was read of a table, and of its pairs
-module _ (rs : List (List ℕ)) (count : ℕ) (columns : List ℕ) (barred : List ℕ) (shape : Shape rs) (read : TasksRead rs count columns) (pairs_read : barred ≡ barred_map rs) where
+module _ (rs : List (List ℕ)) (count : ℕ) (columns : Columns) (barred : List ℕ) (shape : Shape rs) (read : TasksRead rs count columns) (pairs_read : barred ≡ barred_map rs) where
   -- the task at a place is the table's
   task_read_lem : (i : ℕ) → i < task_count rs → task_read columns i ≡ task_at rs i
   task_read_lem i h =
       let each = read.columns in
       rw (
-        sym (get_or-take 64 columns i 0 (omega (arith, shape.few_tasks))) ∙ field_at rs (id_column columns) (λ i. (task_at rs i).id) shape each.ids i h,
-        part_at rs columns 1 (λ i. (task_at rs i).transaction) shape each.transactions i h,
-        part_at rs columns 2 (λ i. (task_at rs i).priority) shape each.priorities i h,
-        part_at rs columns 3 (λ i. (task_at rs i).offset) shape each.offsets i h,
-        part_at rs columns 4 (λ i. (task_at rs i).jitter) shape each.jitters i h,
-        part_at rs columns 5 (λ i. (task_at rs i).response) shape each.responses i h,
-        part_at rs columns 6 (λ i. (task_at rs i).size) shape each.sizes i h,
-        part_at rs columns 7 (λ i. (task_at rs i).threshold) shape each.thresholds i h,
+        field_at rs columns.ids (λ i. (task_at rs i).id) shape each.ids i h,
+        field_at rs columns.transactions (λ i. (task_at rs i).transaction) shape each.transactions i h,
+        field_at rs columns.priorities (λ i. (task_at rs i).priority) shape each.priorities i h,
+        field_at rs columns.offsets (λ i. (task_at rs i).offset) shape each.offsets i h,
+        field_at rs columns.jitters (λ i. (task_at rs i).jitter) shape each.jitters i h,
+        field_at rs columns.responses (λ i. (task_at rs i).response) shape each.responses i h,
+        field_at rs columns.sizes (λ i. (task_at rs i).size) shape each.sizes i h,
+        field_at rs columns.thresholds (λ i. (task_at rs i).threshold) shape each.thresholds i h,
       )
 
   -- a bit of a row is set where the pair of places is barred
@@ -124,7 +136,7 @@ module _ (rs : List (List ℕ)) (count : ℕ) (columns : List ℕ) (barred : Lis
   unfolding decided_on decided
   decided_read i j h l =
       rw (
-        part_at rs columns 8 (period_at rs) shape read.columns.periods i h,
+        field_at rs columns.periods (period_at rs) shape read.columns.periods i h,
         barred_read i j h l,
         task_read_lem i h,
         task_read_lem j l,

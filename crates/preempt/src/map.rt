@@ -4,16 +4,19 @@ ghost use Rattle.rules.specs.Blocks.{records};
 ghost use Rattle.rules.specs.Preempt.{row_from, map_from, map_of};
 ghost use Rattle.rules.specs.Refusals.{accepted, table_verdict};
 ghost use Rattle.rules.specs.Calls.{over, map_verdict, map_after};
+ghost use Rattle.rules.specs.Told.{judged};
 ghost use Rattle.table.specs.Precedence.{before_map};
 ghost use Rattle.preempt.specs.Tasks.{decided_on, decided_by};
 
 use crate::barred::mark_one_way;
-use crate::columns::{Columns, IDS, column_of, period_read, task_read};
+use crate::columns::Columns;
 use crate::decide::may_preempt;
 use crate::tasks::read_tasks;
-use rules::Verdict;
-use sets::bits::{is_set, with_bit_if};
+use rules::Refusal;
+use sets::bits::is_set;
+use sets::places::{by_place, places_where};
 use sets::rows::both_ways;
+use table::accepted::Table;
 use table::judge_table;
 
 // Whether the task at place i may be preempted by the one at place j; bars holds the places that are barred from it.
@@ -21,9 +24,9 @@ pub fn may_preempt_at(columns: &Columns, bars: u64, i: usize, j: usize) -> bool
     requires { (i < 64) × (j < 64) }
     ensures { result ≡ decided_on columns.now bars i j }
 {
-    let low = task_read(columns, i);
-    let high = task_read(columns, j);
-    may_preempt(period_read(columns, i), is_set(bars, j), low, high)
+    let low = columns.task_read(i);
+    let high = columns.task_read(j);
+    may_preempt(columns.period_read(i), is_set(bars, j), low, high)
 }
 
 // Row i of the map: a bit for each task that may preempt the one at place i.
@@ -31,13 +34,7 @@ pub fn decided_row(columns: &Columns, count: usize, bars: u64, i: usize) -> u64
     requires { (i < 64) × (count ≤ 64) }
     ensures { result ≡ row_from count (decided_on columns.now bars i) }
 {
-    let mut row: u64 = 0;
-    let mut j: usize = 0;
-    while j < count {
-        row = with_bit_if(row, j, may_preempt_at(columns, bars, i, j));
-        j += 1;
-    }
-    row
+    places_where(count, |j| may_preempt_at(columns, bars, i, j))
 }
 
 // The map of the tasks, where the rows of barred say which places are barred from which.
@@ -45,13 +42,7 @@ fn map_of(columns: &Columns, barred: &[u64; 64], count: usize) -> [u64; 64]
     requires { count ≤ 64 }
     ensures { result ≡ map_from count (decided_by columns.now barred.now) }
 {
-    let mut map = [0u64; 64];
-    let mut i: usize = 0;
-    while i < count {
-        map[i] = decided_row(columns, count, barred[i], i);
-        i += 1;
-    }
-    map
+    by_place(count, 0, |i| decided_row(columns, count, barred[i], i))
 }
 
 // Writes the 64 rows of a map over the start of a lent one.
@@ -59,50 +50,31 @@ pub fn write_rows(map: [u64; 64], lent: &mut [u64])
     requires { (length map ≡ 64) × (64 ≤ length lent.old) }
     ensures { lent.new ≡ over map lent.old }
 {
-    let mut i: usize = 0;
-    while i < 64 {
-        lent[i] = map[i];
-        i += 1;
-    }
+    lent[..64].copy_from_slice(&map);
 }
 
 // The map of an accepted table, of whose tasks before says which come before which.
-fn table_map(image: &[u8], before: [u64; 64]) -> [u64; 64]
-    requires image_value { accepted (table_verdict image.now) ≡ true }
-    requires before_value { before ≡ before_map (records image.now) }
-    ensures { result ≡ map_of (records image.now) }
+fn table_map(table: &Table, before: [u64; 64]) -> [u64; 64]
+    requires { before ≡ before_map (records table.now.image.now) }
+    ensures { result ≡ map_of (records table.now.image.now) }
 {
-    let tasks = read_tasks(image);
+    let tasks = read_tasks(table);
     let mut rows = before;
-    both_ways(&mut rows, tasks.count);
-    mark_one_way(
-        &mut rows,
-        image,
-        column_of(&tasks.columns, IDS),
-        tasks.count,
-    );
-    map_of(&tasks.columns, &rows, tasks.count)
+    both_ways(&mut rows, table.tasks);
+    mark_one_way(&mut rows, table, &tasks.columns.ids);
+    map_of(&tasks.columns, &rows, table.tasks)
 }
 
-// Fills a lent map from a table image: the verdict, and the map of the table in the first 64 rows. A refusal writes nothing.
-pub fn fill_map(image: &[u8], rows: &mut [u64]) -> Verdict
-    ensures value { result ≡ map_verdict image.now rows.old }
+// Fills a lent map from a table image: the map of the table in the first 64 rows. A refusal writes nothing.
+pub fn fill_map(image: &[u8], rows: &mut [u64]) -> Result<(), Refusal>
+    ensures told { judged result ≡ map_verdict image.now rows.old }
     ensures rows_after { rows.new ≡ map_after image.now rows.old }
 {
     let mut before = [0u64; 64];
-    let verdict = judge_table(image, &mut before);
-    if verdict.number != 0 {
-        return verdict;
-    }
+    let table = judge_table(image, &mut before)?;
     if rows.len() < 64 {
-        return Verdict {
-            number: 11,
-            place: 0,
-        };
+        return Err(Refusal::Short);
     }
-    write_rows(table_map(image, before), rows);
-    Verdict {
-        number: 0,
-        place: 0,
-    }
+    write_rows(table_map(&table, before), rows);
+    Ok(())
 }

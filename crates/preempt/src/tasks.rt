@@ -1,31 +1,31 @@
-// The tasks of a table, read once into one array, a column for each field.
-ghost use Rattle.std.specs.Prelude.{◌≡◌, true, [], ◌<◌, length, get_or};
+// The tasks of a table, read once.
+ghost use Rattle.std.specs.Prelude.{◌≡◌, [], ◌<◌, get_or, unwrap_or, IfSome};
 ghost use Rattle.rules.specs.Blocks.{records};
-ghost use Rattle.rules.specs.Records.{jitter_of, threshold_of, task_of, transactions, tasks, task_count, place_of, period_in, period_at};
-ghost use Rattle.rules.specs.Refusals.{accepted, table_verdict};
+ghost use Rattle.rules.specs.Records.{jitter_of, threshold_of, task_of, tasks, place_of, period_in, period_at};
 ghost use Rattle.preempt.specs.Tasks.{TasksRead};
 
-use crate::columns::{
-    Columns, JITTERS, OFFSETS, PERIODS, PRIORITIES, RESPONSES, SIZES, THRESHOLDS, TRANSACTIONS,
-};
+use crate::columns::Columns;
 use image::bytes::{byte_at, four_bytes, two_bytes};
-use image::records::record_at;
 use rules::Task;
-use table::count::count_kind;
+use table::accepted::Table;
 use table::place::place_from;
 
-// What is read of the tasks: how many they are, and their columns.
+// An accepted table, and what is read of its tasks.
 #[derive(Drop)]
-pub struct Tasks {
-    pub count: usize,
+pub struct Tasks<'a> {
+    pub table: Table<'a>,
     pub columns: Columns,
+    ghost read: { TasksRead (records table.image.now) table.tasks columns },
 }
+
+// The jitter of a task that is not measured.
+const UNMEASURED: u32 = u32::MAX;
 
 // A jitter, where one that is missing is read as the period of the task's transaction.
 fn jitter_of(period: u32, jitter: u32) -> u32
     ensures { result ≡ jitter_of period jitter }
 {
-    if jitter == 4_294_967_295 {
+    if jitter == UNMEASURED {
         return period;
     }
     jitter
@@ -58,79 +58,57 @@ fn task_of(period: u32, fields: &[u8]) -> Task
     }
 }
 
-// The record of the task at a place of an accepted table, which has as many transactions as are said to come first.
-fn task_record(image: &[u8], first: usize, place: usize) -> &[u8]
-    requires image_value { accepted (table_verdict image.now) ≡ true }
-    requires first_value { (first ≡ length (transactions (records image.now))) × (place < task_count (records image.now)) }
-    ensures { result.now ≡ get_or (tasks (records image.now)) place [] }
+// The task at a place of an accepted table, where its transaction has this period.
+pub fn task_at(table: &Table, place: usize, period: u32) -> Task
+    requires { place < table.now.tasks }
+    ensures { result ≡ task_of period (get_or (tasks (records table.now.image.now)) place []) }
 {
-    record_at(image, first + place)
+    task_of(period, table.task_record(place))
 }
 
-// The task at a place, where its transaction has this period.
-pub fn task_at(image: &[u8], first: usize, place: usize, period: u32) -> Task
-    requires image_value { accepted (table_verdict image.now) ≡ true }
-    requires first_value { (first ≡ length (transactions (records image.now))) × (place < task_count (records image.now)) }
-    ensures { result ≡ task_of period (get_or (tasks (records image.now)) place []) }
+// The place of the task with this id, where one is listed.
+pub fn task_place(table: &Table, id: u32) -> Option<usize>
+    ensures place { unwrap_or result table.now.tasks ≡ place_of (tasks (records table.now.image.now)) id }
+    ensures in_bounds { IfSome result (λ i. i < table.now.tasks) }
 {
-    task_of(period, task_record(image, first, place))
+    let place = place_from(table.image, table.transactions, table.tasks, id);
+    if place == table.tasks {
+        return None;
+    }
+    Some(place)
 }
 
-// The place of the task with this id, or the number of tasks where it is not listed.
-pub fn task_place(image: &[u8], id: u32) -> usize
-    requires { accepted (table_verdict image.now) ≡ true }
-    ensures { result ≡ place_of (tasks (records image.now)) id }
+// The period of the transaction with this number, or 0 where it is not listed.
+fn period_in(table: &Table, number: u32) -> u32
+    ensures { result ≡ period_in (records table.now.image.now) number }
 {
-    let first = count_kind(image, 1);
-    let count = count_kind(image, 2);
-    place_from(image, first, count, id)
-}
-
-// The period of the transaction with this number, of the count that a table has, or 0 where it is not listed.
-fn period_in(image: &[u8], count: usize, number: u32) -> u32
-    requires image_value { accepted (table_verdict image.now) ≡ true }
-    requires count_value { count ≡ length (transactions (records image.now)) }
-    ensures { result ≡ period_in (records image.now) number }
-{
-    let place = place_from(image, 0, count, number);
-    if place == count {
+    let place = place_from(table.image, 0, table.transactions, number);
+    if place == table.transactions {
         return 0;
     }
-    four_bytes(record_at(image, place), 8)
+    four_bytes(table.transaction_record(place), 8)
 }
 
 // The period of the transaction of the task at a place.
-pub fn period_at(image: &[u8], first: usize, place: usize) -> u32
-    requires image_value { accepted (table_verdict image.now) ≡ true }
-    requires first_value { (first ≡ length (transactions (records image.now))) × (place < task_count (records image.now)) }
-    ensures { result ≡ period_at (records image.now) place }
+pub fn period_at(table: &Table, place: usize) -> u32
+    requires { place < table.now.tasks }
+    ensures { result ≡ period_at (records table.now.image.now) place }
 {
-    let transaction = two_bytes(task_record(image, first, place), 4);
-    period_in(image, first, transaction)
+    period_in(table, two_bytes(table.task_record(place), 4))
 }
 
 // The tasks of an accepted table.
-pub fn read_tasks(image: &[u8]) -> Tasks
-    requires { accepted (table_verdict image.now) ≡ true }
-    ensures { TasksRead (records image.now) result.count result.columns }
+pub fn read_tasks<'a>(table: &Table<'a>) -> Tasks<'a>
+    ensures of_table { result.table ≡ table.now }
+    ensures read { TasksRead (records table.now.image.now) table.now.tasks result.columns }
 {
-    let first = count_kind(image, 1);
-    let count = count_kind(image, 2);
-    let mut columns = [0u32; 576];
-    let mut i: usize = 0;
-    while i < count {
-        let period = period_at(image, first, i);
-        let task = task_at(image, first, i, period);
-        columns[i] = task.id;
-        columns[TRANSACTIONS + i] = task.transaction;
-        columns[PRIORITIES + i] = task.priority;
-        columns[OFFSETS + i] = task.offset;
-        columns[JITTERS + i] = task.jitter;
-        columns[RESPONSES + i] = task.response;
-        columns[SIZES + i] = task.size;
-        columns[THRESHOLDS + i] = task.threshold;
-        columns[PERIODS + i] = period;
-        i += 1;
+    let mut columns = Columns::none();
+    for i in 0..table.tasks {
+        let period = period_at(table, i);
+        columns.put(i, task_at(table, i, period), period);
     }
-    Tasks { count, columns }
+    Tasks {
+        table: *table,
+        columns,
+    }
 }

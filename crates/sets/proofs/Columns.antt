@@ -1,4 +1,4 @@
--- Laws of columns: 64 numbers, filled from the front.
+-- Laws of 64 values that are filled in from the front, and of columns, where they are numbers.
 use Prim.Native.Nat.{ℕ, ◌+◌, ◌≤◌, ◌<◌}
 use mathlib.Core.List.{List}
 use mathlib.Core.Bool.{cond}
@@ -9,20 +9,58 @@ use lib.ListN.{length, get_or, set, replicate, length-set, length-replicate, get
 use lib.Seq.{ext_get_or, get_or-set_same, get_or-set_other}
 use lib.Dec.{ltb, eqb}
 use Rattle.rules.proofs.Numbers.{either, length-up_to, get_or-up_to}
-use Rattle.sets.specs.Bits.{column}
+use Rattle.sets.specs.Bits.{column, filled}
+
+-- 64 values, of any kind
+module _ {A : Type 0} (beyond : A) where
+  pub filled-length : (n : ℕ) (f : ℕ → A) → length (filled beyond n f) ≡ 64
+  unfolding filled
+  filled-length n f = length-up_to (λ i. cond (ltb i n) (f i) beyond) 64
+
+  -- what stands at a place of the 64
+  filled_here : (n : ℕ) (f : ℕ → A) (i : ℕ) → i < 64 → get_or (filled beyond n f) i beyond ≡ cond (ltb i n) (f i) beyond
+  unfolding filled
+  filled_here n f i h = get_or-up_to (λ i. cond (ltb i n) (f i) beyond) 64 i beyond h
+
+  -- nothing is filled in at first
+  pub filled-none : (f : ℕ → A) → replicate 64 beyond ≡ filled beyond 0 f
+  filled-none f =
+      ext_get_or beyond (replicate 64 beyond) (filled beyond 0 f) (length-replicate 64 beyond ∙ sym (filled-length 0 f))
+      (λ i h.
+      let inside : i < 64 = omega (arith, length-replicate 64 beyond) in
+      get_or-replicate 64 i beyond beyond inside ∙ sym (filled_here 0 f i inside ∙ rw (le-ltb i 0 (omega arith))))
+
+  -- one more place is filled in
+  pub filled_more : (n : ℕ) (f : ℕ → A) → n < 64 → set (filled beyond n f) n (f n) ≡ filled beyond (n + 1) f
+  filled_more n f most =
+      ext_get_or beyond (set (filled beyond n f) n (f n)) (filled beyond (n + 1) f)
+      (length-set (filled beyond n f) n (f n) ∙ filled-length n f ∙ sym (filled-length (n + 1) f))
+      (λ i h.
+      let inside : i < 64 = omega (arith, length-set (filled beyond n f) n (f n), filled-length n f) in
+      either (eqb i n)
+      (λ t.
+      let same = eqb-true i n t in
+      rw same
+      (get_or-set_same (filled beyond n f) n (f n) beyond (omega (arith, filled-length n f))
+      ∙ sym (filled_here (n + 1) f n most ∙ rw (lt-ltb n (n + 1) (omega arith)))))
+      (λ t.
+      let other = eqb-false i n t in
+      get_or-set_other (filled beyond n f) n i (f n) beyond other
+      ∙ filled_here n f i inside
+      ∙ either (ltb i n)
+      (λ u. rw (u, filled_here (n + 1) f i inside, lt-ltb i (n + 1) (omega (arith, ltb-true i n u))))
+      (λ u. rw (u, filled_here (n + 1) f i inside, le-ltb i (n + 1) (omega (arith, ltb-false i n u))))))
 
 pub column-length : (n : ℕ) (f : ℕ → ℕ) → length (column n f) ≡ 64
-unfolding column
-column-length n f = length-up_to (λ i. cond (ltb i n) (f i) 0) 64
+column-length = filled-length 0
 
 -- so what is one has 64 numbers
 pub column_long : {l : List ℕ} (n : ℕ) (f : ℕ → ℕ) → l ≡ column n f → length l ≡ 64
 column_long n f e = ap length e ∙ column-length n f
 
--- what stands at a place of the 64
+-- what stands at a place of them
 column_here : (n : ℕ) (f : ℕ → ℕ) (i : ℕ) → i < 64 → get_or (column n f) i 0 ≡ cond (ltb i n) (f i) 0
-unfolding column
-column_here n f i h = get_or-up_to (λ i. cond (ltb i n) (f i) 0) 64 i 0 h
+column_here = filled_here 0
 
 pub column_at : (n : ℕ) (f : ℕ → ℕ) (i : ℕ) → n ≤ 64 → i < n → get_or (column n f) i 0 ≡ f i
 column_at n f i most h = column_here n f i (omega arith) ∙ rw (lt-ltb i n h)
@@ -56,32 +94,11 @@ column_zero n f zeros =
 
 -- nothing is filled in at first
 pub column-none : (f : ℕ → ℕ) → replicate 64 0 ≡ column 0 f
-column-none f = column_zero 0 f (λ i h. absurd (omega arith))
-
--- one more place is filled in
-column_more : (n : ℕ) (f : ℕ → ℕ) → n < 64 → set (column n f) n (f n) ≡ column (n + 1) f
-column_more n f most =
-    ext_get_or 0 (set (column n f) n (f n)) (column (n + 1) f)
-    (length-set (column n f) n (f n) ∙ column-length n f ∙ sym (column-length (n + 1) f))
-    (λ i h.
-    let inside : i < 64 = omega (arith, length-set (column n f) n (f n), column-length n f) in
-    either (eqb i n)
-    (λ t.
-    let same = eqb-true i n t in
-    rw same
-    (get_or-set_same (column n f) n (f n) 0 (omega (arith, column-length n f))
-    ∙ sym (column_here (n + 1) f n most ∙ rw (lt-ltb n (n + 1) (omega arith)))))
-    (λ t.
-    let other = eqb-false i n t in
-    get_or-set_other (column n f) n i (f n) 0 other
-    ∙ column_here n f i inside
-    ∙ either (ltb i n)
-    (λ u. rw (u, column_here (n + 1) f i inside, lt-ltb i (n + 1) (omega (arith, ltb-true i n u))))
-    (λ u. rw (u, column_here (n + 1) f i inside, le-ltb i (n + 1) (omega (arith, ltb-false i n u))))))
+column-none = filled-none 0
 
 -- a column with a value written at its next place
 pub column_filled : (n : ℕ) (f : ℕ → ℕ) (l : List ℕ) (x : ℕ) → n < 64 → l ≡ column n f → x ≡ f n → set l n x ≡ column (n + 1) f
-column_filled n f l x most e here = rw (e, here) (column_more n f most)
+column_filled n f l x most e here = rw (e, here) (filled_more 0 n f most)
 
 -- another number at one of its places
 pub column-set : (n : ℕ) (f g : ℕ → ℕ) (a x : ℕ) → n ≤ 64 → a < n → ((i : ℕ) → i < n → (i ≡ a → ⊥) → f i ≡ g i) → x ≡ g a

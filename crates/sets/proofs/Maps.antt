@@ -15,13 +15,13 @@ use Rattle.rules.specs.Preempt.{row_from, map_from, bit_at, cell}
 use Rattle.rules.proofs.Numbers.{either, get_or-up_to, sum_to_ext}
 use Rattle.rules.proofs.Bits.{bit_none, bit_of_power, bit-or, bits_at, bits_small, bits_none, bits_made}
 use Rattle.rules.proofs.Maps.{row_test, row_at, map-length, map_row, row_ext}
-use Rattle.sets.specs.Bits.{column, with_cell}
+use Rattle.sets.specs.Bits.{filled, column, with_cell}
 use Rattle.sets.proofs.Sets.{bits_determined}
 use Rattle.sets.proofs.Columns.{column_zero, column-none, column_filled, column-set}
 
 -- a map is a column of rows
-map-column : (n : ℕ) (test : ℕ → ℕ → Bool) → map_from n test ≡ column n (λ i. row_from n (test i))
-unfolding map_from column
+pub map-column : (n : ℕ) (test : ℕ → ℕ → Bool) → map_from n test ≡ column n (λ i. row_from n (test i))
+unfolding map_from filled
 map-column n test = refl
 
 -- a loop fills a map row by row: the rows below place i are those of the tests, and the others are 0

@@ -34,3 +34,7 @@ Below count set = (j : ℕ) → bit_at set j ≡ ltb j count
 -- every place of the set is below count
 abbrev pub Inside : ℕ → ℕ → Type 0
 Inside count set = (j : ℕ) → bit_at set j ≡ true → j < count
+
+-- whatever is answered of a place below count is what the function says of it
+abbrev pub Tells : {A : Type 0} → ℕ → (ℕ → A → Type 0) → (ℕ → A) → Type 0
+Tells {A} count answers f = (place : ℕ) (answer : A) → place < count → answers place answer → answer ≡ f place

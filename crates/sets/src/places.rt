@@ -1,9 +1,9 @@
 // Operations on sets of places, and a place to index with.
-ghost use Rattle.std.specs.Prelude.{◌≡◌, true, ◌≤◌, ◌<◌, length};
+ghost use Rattle.std.specs.Prelude.{◌≡◌, ℕ, Bool, true, ◌≤◌, ◌<◌, length};
 ghost use Rattle.std.specs.Int.Bits.{bit_or};
 ghost use Rattle.rules.specs.Preempt.{row_from, bit_at};
-ghost use Rattle.sets.specs.Bits.{has_number};
-ghost use Rattle.sets.specs.Places.{Lowest, Without, Shared, Outside, Below, TakesLowest};
+ghost use Rattle.sets.specs.Bits.{has_number, filled};
+ghost use Rattle.sets.specs.Places.{Lowest, Without, Shared, Outside, Below, TakesLowest, Tells};
 ghost use Rattle.std.specs.Iterator.{at_most};
 
 use crate::bits::with_bit_if;
@@ -95,14 +95,36 @@ pub fn union(a: u64, b: u64) -> u64
     a | b
 }
 
+// The places below count that pass a test, each asked once.
+pub fn places_where<F: Fn(usize) -> bool>(count: usize, passes: F) -> u64
+    requires few { count ≤ 64 }
+    requires callable { (place : ℕ) → place < count → F.pre passes place }
+    ensures { (test : ℕ → Bool) → Tells count (F.post passes) test → result ≡ row_from count test }
+{
+    let mut set: u64 = 0;
+    for place in 0..count {
+        set = with_bit_if(set, place, passes(place));
+    }
+    set
+}
+
+// 64 values by place: what is answered of each place below count, and another value beyond.
+pub fn by_place<T: Copy, F: Fn(usize) -> T>(count: usize, beyond: T, value: F) -> [T; 64]
+    requires few { count ≤ 64 }
+    requires callable { (place : ℕ) → place < count → F.pre value place }
+    ensures { (f : ℕ → T) → Tells count (F.post value) f → result ≡ filled beyond count f }
+{
+    let mut values = [beyond; 64];
+    for place in 0..count {
+        values[place] = value(place);
+    }
+    values
+}
+
 // The places below count whose number is this one.
 pub fn members(numbers: &[u32], count: usize, number: u32) -> u64
     requires { (count ≤ 64) × (count ≤ length numbers.now) }
     ensures { result ≡ row_from count (has_number numbers.now number) }
 {
-    let mut set: u64 = 0;
-    for place in 0..count {
-        set = with_bit_if(set, place, numbers[place] == number);
-    }
-    set
+    places_where(count, |place| numbers[place] == number)
 }

@@ -1,54 +1,40 @@
 -- One case for each way out: a refused table, too short a map, and a map that is filled.
--- the table is accepted, and it is known which of its tasks come before which
-use Prim.Native.Nat.{ℕ}
 use mathlib.Core.List.{List}
 use mathlib.Core.Bool.{true, false}
-use mathlib.Core.Path.{◌≡◌, refl, ap, ◌∙◌}
-use lib.ListN.{length}
+use mathlib.Core.Path.{◌≡◌, ap, ◌∙◌}
 use Rattle.rules.specs.Calls.{over}
 use Rattle.rules.specs.Refusals.{accepted, table_verdict}
-use Rattle.rules.specs.Records.{task_count}
-use Rattle.rules.specs.Preempt.{decided}
 use Rattle.rules.specs.Blocks.{records}
-use Rattle.rules.proofs.Maps.{map-length}
-use Rattle.rules.proofs.Refusals.{other_refused}
-use Rattle.table.specs.Precedence.{before_map}
-use Rattle.table.proofs.Judging.{judged_accepted, judged_before}
+use Rattle.rules.specs.Preempt.{map_of}
+use Rattle.rules.proofs.Judged.{is_refused}
+use Rattle.table.proofs.Judging.{judged_before, handed_on}
 use Rattle.preempt.proofs.Calls.{map_refused, map_short, map_filled}
 use Rattle.preempt.proofs.map.fill_map.Goals as goal
 
-pub judge_table-verdict-requires : goal.judge_table-verdict-requires
-judge_table-verdict-requires c = refl
-
-pub returns-then-verdict-ne0 : goal.returns-then-verdict-ne0
-returns-then-verdict-ne0 c =
+pub returns-in_err-table : goal.returns-in_err-table
+returns-in_err-table c =
     let a = c.args in
-    let verdict = c.judge_table-verdict.ensures.verdict in
-    let refused : accepted (table_verdict a.image.now) ≡ false = other_refused _ _ verdict c.if-verdict-ne0.true in
-    let call = map_refused a.image.now a.rows.now refused in record { value = verdict ∙ call.0; rows_after = call.1 }
+    let e = c.in_err-table.field-0.0 in
+    let refusal = c.in_err-table.ensures.judges.verdict in
+    let refused : accepted (table_verdict c.args.image.now) ≡ false = rw (← refusal) (is_refused e) in
+    let call = map_refused a.image.now a.rows.now refused in
+    record { told = handed_on c.from_residual.result e c.from_residual.ensures.1 (refusal ∙ call.0); rows_after = call.1 }
 
 pub returns-then-rows-lt64 : goal.returns-then-rows-lt64
 returns-then-rows-lt64 c =
-    let right : accepted (table_verdict c.args.image.now) ≡ true = let judged = c.judge_table-verdict in
-    judged_accepted c.args.image.now judged.result _ judged.new.before judged.ensures c.if-verdict-ne0.false in
-    let a = c.args in let both_given = map_short a.image.now a.rows.now right c.if-rows-lt64.true in record { value = both_given.0; rows_after = both_given.1 }
+    let right : accepted (table_verdict c.args.image.now) ≡ true = rw (← c.in_ok-table.ensures.of_image) c.in_ok-table.table.accepted in
+    let call = map_short c.args.image.now c.args.rows.now right c.if-rows-lt64.true in record { told = call.0; rows_after = call.1 }
 
 pub table_map-requires : goal.table_map-requires
 table_map-requires c =
-    let right : accepted (table_verdict c.args.image.now) ≡ true = let judged = c.judge_table-verdict in
-    judged_accepted c.args.image.now judged.result _ judged.new.before judged.ensures c.if-verdict-ne0.false in
-    let before_known : c.judge_table-verdict.new.before ≡ before_map (records c.args.image.now) = let judged = c.judge_table-verdict in
-    judged_before c.args.image.now judged.result _ judged.new.before judged.ensures right in
-    record { image_value = right; before_value = before_known }
-
-pub write_rows-requires : goal.write_rows-requires
-write_rows-requires c =
-    let rs = records c.args.image.now in
-    (ap length c.table_map.ensures ∙ map-length (task_count rs) (decided rs), c.if-rows-lt64.false)
+    let ok = c.in_ok-table.ensures in
+    let right : accepted (table_verdict c.args.image.now) ≡ true = rw (← ok.of_image) c.in_ok-table.table.accepted in
+    rw ok.of_image (judged_before c.args.image.now _ _ _ ok.judges right)
 
 pub returns : goal.returns
 returns c =
-    let right : accepted (table_verdict c.args.image.now) ≡ true = let judged = c.judge_table-verdict in
-    judged_accepted c.args.image.now judged.result _ judged.new.before judged.ensures c.if-verdict-ne0.false in
     let a = c.args in
-    let call = map_filled a.image.now a.rows.now right c.if-rows-lt64.false in record { value = call.0; rows_after = c.write_rows.ensures ∙ ap (λ (map : List ℕ). over map a.rows.now) c.table_map.ensures ∙ call.1 }
+    let right : accepted (table_verdict c.args.image.now) ≡ true = rw (← c.in_ok-table.ensures.of_image) c.in_ok-table.table.accepted in
+    let map = c.table_map.ensures ∙ ap (λ (image : List _). map_of (records image)) c.in_ok-table.ensures.of_image in
+    let call = map_filled a.image.now a.rows.now right c.if-rows-lt64.false in
+    record { told = call.0; rows_after = c.write_rows.ensures ∙ ap (λ (map : List _). over map a.rows.now) map ∙ call.1 }

@@ -1,12 +1,13 @@
-use native.Mathlib.Omega.{arith}
-use Rattle.sets.proofs.Maps.{filled_none, filled_more, filled_all}
+-- A map is a column of rows.
+use Rattle.std.proofs.Common.{rules}
+use mathlib.Core.Path.{sym, ◌∙◌}
+use Rattle.rules.specs.Preempt.{row_from}
+use Rattle.sets.proofs.Maps.{map-column}
+use Rattle.preempt.specs.Tasks.{decided_by}
 use Rattle.preempt.proofs.map.map_of.Goals as goal
 
-pub loop-i-init : goal.loop-i-init
-loop-i-init c = filled_none
-
-pub loop-i-preserved : goal.loop-i-preserved
-loop-i-preserved c = filled_more c.loop-i.invariant (omega arith) (omega arith) c.decided_row.ensures
-
 pub returns : goal.returns
-returns c = filled_all c.loop-i.invariant (omega arith)
+returns c =
+    let a = c.args in
+    c.by_place.ensures (λ i. row_from a.count (decided_by a.columns.now a.barred.now i)) (λ place row below told. search rules)
+    ∙ sym (map-column a.count (decided_by a.columns.now a.barred.now))

@@ -1,22 +1,24 @@
 -- The tasks stand behind the transactions, so the place among those records is the place among the tasks.
-use mathlib.Core.Path.{◌∙◌}
+use mathlib.Core.Path.{sym, ◌∙◌}
 use native.Mathlib.Omega.{arith}
-use Rattle.table.proofs.Counts.{table_held, count_asked}
-use Rattle.preempt.proofs.Accepted.{kinds_counted, task_placed}
+use Rattle.rules.specs.Blocks.{records}
+use Rattle.rules.specs.Records.{tasks}
+use Rattle.table.proofs.Counts.{table_held}
+use Rattle.table.proofs.Places.{place_within}
+use Rattle.table.proofs.Tables.{kinds_counted, task_placed}
 use Rattle.preempt.proofs.tasks.task_place.Goals as goal
 
-pub count_kind-first-requires : goal.count_kind-first-requires
-count_kind-first-requires c = let both_given = count_asked c.args.image.now c.requires _ (omega arith) in record { image_value = both_given.0; holds_records = both_given.1 }
+pub place_from-place-requires : goal.place_from-place-requires
+place_from-place-requires c =
+    let t = c.args.table.now in
+    (omega (arith, kinds_counted t), table_held t.image.now t.accepted)
 
-pub count_kind-count-requires : goal.count_kind-count-requires
-count_kind-count-requires c = let both_given = count_asked c.args.image.now c.requires _ (omega arith) in record { image_value = both_given.0; holds_records = both_given.1 }
-
-pub place_from-requires : goal.place_from-requires
-place_from-requires c =
-    let image = c.args.image.now in
-    (omega (arith, kinds_counted image c.type_inv.image c.requires, c.count_kind-first.ensures.0, c.count_kind-count.ensures.0), table_held image c.requires)
+pub returns-then-place-table : goal.returns-then-place-table
+returns-then-place-table c = record { place = sym c.if-place-table.true ∙ c.place_from-place.ensures ∙ task_placed c.args.table.now c.args.id; in_bounds = tt }
 
 pub returns : goal.returns
 returns c =
-    c.place_from.ensures
-    ∙ task_placed c.args.image.now c.type_inv.image c.requires _ _ c.count_kind-first.ensures.0 c.count_kind-count.ensures.0 c.args.id
+    let t = c.args.table.now in
+    let placed = c.place_from-place.ensures ∙ task_placed t c.args.id in
+    let inside = place_within (tasks (records t.image.now)) c.args.id c.place_from-place.result t.tasks placed t.tasks_counted c.if-place-table.false in
+    record { place = placed; in_bounds = omega (arith, inside, t.tasks_counted) }

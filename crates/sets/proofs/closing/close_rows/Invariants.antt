@@ -1,5 +1,5 @@
 -- The loop keeps the rows of the paths that lead through places below k.
-use Prim.Native.Nat.{◌-◌, ◌≤◌}
+use Prim.Native.Nat.{◌≤◌}
 use mathlib.Core.Path.{◌≡◌}
 use Rattle.rules.specs.Preempt.{cell, map_from}
 use Rattle.rules.specs.Reach.{reaches}

@@ -1,5 +1,4 @@
 -- The loop adds the paths row by row; over a place from which no step leads there is none to add.
-use Prim.Native.Nat.{◌-◌}
 use Rattle.sets.proofs.Paths.{Leading}
 use Rattle.sets.proofs.closing.lead_over.Given as goal
 

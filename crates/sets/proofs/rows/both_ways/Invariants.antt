@@ -1,5 +1,4 @@
 -- The loop turns the cells row by row.
-use Prim.Native.Nat.{◌-◌}
 use Rattle.sets.proofs.Turning.{Turning}
 use Rattle.sets.proofs.rows.both_ways.Given as goal
 
