@@ -27,10 +27,6 @@ copied_more s d k inside fits =
     let step = paste-suc {A = ℕ} d 0 s k 0 (omega arith) inside in
     rw more (rw (here, next) at step)
 
--- values written over a whole list
-over_all : (s d : List ℕ) → length s ≡ length d → over s d ≡ s
-over_all s d e = rw (e, drop-length d, append-nil)
-
 -- a part put behind the values that are written already
 put-over : (done new l : List ℕ) (a k : ℕ) → length done ≡ a → length new ≡ k → put_mid a k (over done l) new ≡ over (done ++ new) l
 put-over done new l a k e f =
@@ -43,19 +39,6 @@ put-over done new l a k e f =
       append_assoc done new (drop (length done + k) l),
     )
 
--- values stored one after another behind the values that are written already
-stored_over : (done new l : List ℕ) (a : ℕ) → length done ≡ a → a + length new ≤ length l → sets (over done l) a new ≡ over (done ++ new) l
-stored_over done new l a e h =
-    let long : length (over done l) ≡ length l = simp (length-append, length-drop) (omega arith) in
-    sets-eq new (over done l) a (omega arith)
-    ∙ rw (
-      take_at done (drop (length done) l) a e,
-      ← drop-drop (length new) a (over done l),
-      drop_at done (drop (length done) l) a e,
-      drop-drop (length new) (length done) l,
-      length-append done new,
-    )
-
 -- a mark is two bytes long
 length-mark : (form : Form) → length (mark form) ≡ 2
 length-mark Table = refl
@@ -64,11 +47,6 @@ length-mark Patch = refl
 -- a header is eight bytes long
 length_header : (form : Form) (total b count : ℕ) → length (header_of form total b count) ≡ 8
 length_header form total b count = rw (length-append, length-mark)
-
--- the header's six bytes behind the mark
-pub header_stored : (form : Form) (total b count : ℕ) (l : List ℕ) → 8 ≤ length l
-    → sets (over (mark form) l) 2 (b ∷ total ∷ count ∷ 0 ∷ 0 ∷ 0 ∷ []) ≡ over (header_of form total b count) l
-header_stored form total b count l h = stored_over (mark form) (b ∷ total ∷ count ∷ 0 ∷ 0 ∷ 0 ∷ []) l 2 (length-mark form) h
 
 -- a part that lies within a list is as long as it says
 length_part : (s : List ℕ) (start size : ℕ) → start + size ≤ length s → length (take size (drop start s)) ≡ size
@@ -98,7 +76,7 @@ module _ (form : Form) (total b : ℕ) (flat : List ℕ) (few : length flat ≤ 
   pub body_written : (block headed copied zeros : List ℕ)
       → headed ≡ over (header_of form total b (length flat / 32)) block
       → length headed ≡ 512
-      → copied ≡ over flat (take (end - 8) (drop 8 headed))
+      → copied ≡ flat
       → length (behind_header headed copied) ≡ 512
       → zeros ≡ replicate (length (take (510 - end) (drop end (behind_header headed copied)))) 0
       → put_mid end (510 - end) (behind_header headed copied) zeros ≡ over (body_bytes form total b flat) block
@@ -107,9 +85,8 @@ module _ (form : Form) (total b : ℕ) (flat : List ℕ) (few : length flat ≤ 
       let eight = length_header form total b (length flat / 32) in
       let all : end - 8 ≡ length flat = omega arith in
       let rest : 510 - end ≡ 502 - length flat = omega arith in
-      let records : copied ≡ flat = copy ∙ over_all flat (take (end - 8) (drop 8 headed)) (sym (length_part headed 8 (end - 8) (omega arith) ∙ all)) in
       let fill : zeros ≡ replicate (502 - length flat) 0 = zero ∙ rw (length_part (behind_header headed copied) end (510 - end) (omega arith), rest) in
-      let first : behind_header headed copied ≡ over (header ++ flat) block = rw (head, records) (put-over header flat block 8 (end - 8) eight (sym all)) in
+      let first : behind_header headed copied ≡ over (header ++ flat) block = rw (head, copy) (put-over header flat block 8 (end - 8) eight (sym all)) in
       rw (first, fill)
       (put-over (header ++ flat) (replicate (502 - length flat) 0) block end (510 - end) (rw (length-append, eight)) (rw (length-replicate, rest))
       ∙ rw (append_assoc header flat (replicate (502 - length flat) 0)))

@@ -2,7 +2,7 @@
 ghost use Rattle.std.specs.Prelude.{◌≡◌, ◌+◌, ◌^◌, ◌≤◌, ◌<◌, length};
 ghost use Rattle.rules.specs.Blocks.{record_start, record_at, record_count};
 
-use crate::bytes::{byte_at, least};
+use crate::bytes::byte_at;
 
 // How many records an image holds, by the count of its last block.
 pub fn record_count(image: &[u8]) -> usize
@@ -39,6 +39,7 @@ pub fn record_at(image: &[u8], k: usize) -> &[u8]
 }
 
 // The bytes of record k that lie in the image, as a part of it: past the image's end there are fewer than 32 or none.
+#[tactic(auto, using(crate::proofs::Parts::part_clipped, crate::proofs::Parts::part_past))]
 pub fn record_part(image: &[u8], k: usize) -> &[u8]
     ensures { result.now ≡ record_at image.now k }
 {
@@ -47,7 +48,7 @@ pub fn record_part(image: &[u8], k: usize) -> &[u8]
         return &image[length..length];
     }
     let start = record_start(k);
-    let from = least(start, length);
-    let to = least(start + rules::RECORD_BYTES, length);
+    let from = start.min(length);
+    let to = (start + rules::RECORD_BYTES).min(length);
     &image[from..to]
 }

@@ -11,7 +11,9 @@ use patch::call::apply_patch;
 use preempt::map::fill_map;
 use reason::call::find_reason;
 use reverse::call::reverse_patch;
-use rules::{Bounds, BoundsWithin, Offending, Patched, Reasoned, Reversed, Shown, Verdict};
+use rules::{
+    Bounds, BoundsWithin, Offending, Patched, Reasoned, Refusal, Reversed, Shown, Verdict,
+};
 use stack::call::find_bounds;
 use through::call::{chain_through, room_left};
 use within::call::bounds_within;
@@ -22,7 +24,7 @@ pub extern "C" fn siodlomil_map(image: &[u8], map: &mut [u64]) -> Verdict
     ensures value { result ≡ map_verdict image.now map.old }
     ensures map_after { map.new ≡ map_after image.now map.old }
 {
-    fill_map(image, map)
+    Verdict::from(fill_map(image, map))
 }
 
 // The four bounds of a table image over a lent map of any contents, with the chain's ids in the lent room. A refusal
@@ -31,7 +33,7 @@ pub extern "C" fn siodlomil_map(image: &[u8], map: &mut [u64]) -> Verdict
 pub extern "C" fn siodlomil_bounds(image: &[u8], map: &[u64], ids: &mut [u16]) -> Bounds
     ensures { BoundCall image.now map.now ids.old result ids.new }
 {
-    find_bounds(image, map, ids)
+    Bounds::from(find_bounds(image, map, ids))
 }
 
 // The same within a limit on the chains that 001's Algorithm 1 opens, with the number of chains that it opens. Where it opens
@@ -45,7 +47,7 @@ pub extern "C" fn siodlomil_bounds_within(
 ) -> BoundsWithin
     ensures { WithinCall image.now map.now ids.old limit result ids.new }
 {
-    bounds_within(image, map, ids, limit)
+    BoundsWithin::from(bounds_within(image, map, ids, limit))
 }
 
 // For each task of a table image, by place, the reserve less the weight of the heaviest chain that contains it, in the lent
@@ -59,7 +61,7 @@ pub extern "C" fn siodlomil_room_left(
 ) -> Verdict
     ensures { RoomLeftCall image.now map.now reserve room.old result room.new }
 {
-    room_left(image, map, reserve, room)
+    Verdict::from(room_left(image, map, reserve, room))
 }
 
 // The heaviest chain of a table image that contains the task with this id, by its ids in the lent room. A refusal answers its
@@ -73,7 +75,7 @@ pub extern "C" fn siodlomil_chain_through(
 ) -> Shown
     ensures { ThroughCall image.now map.now id ids.old result ids.new }
 {
-    chain_through(image, map, id, ids)
+    Shown::from(chain_through(image, map, id, ids))
 }
 
 // Why the task with one id may be preempted by the task with another, or why not, as a number from 1 to 6. A refusal answers
@@ -82,7 +84,7 @@ pub extern "C" fn siodlomil_chain_through(
 pub extern "C" fn siodlomil_reason(image: &[u8], low: u32, high: u32) -> Reasoned
     ensures { result ≡ reason_answer image.now low high }
 {
-    find_reason(image, low, high)
+    Reasoned::from(find_reason(image, low, high))
 }
 
 // Applies a patch to a base: the outcome's image and its map go to the lent rooms, and the number of touched tasks and the
@@ -97,7 +99,7 @@ pub extern "C" fn siodlomil_patch(
 ) -> Patched
     ensures { PatchCall base.now patch.now map.now room.old carried.old result room.new carried.new }
 {
-    apply_patch(base, patch, map, room, carried)
+    Patched::from(apply_patch(base, patch, map, room, carried))
 }
 
 // Writes the reverse of a patch to the lent room as a patch image, and answers its length, which is the patch's. A refusal
@@ -107,7 +109,7 @@ pub extern "C" fn siodlomil_reverse(patch: &[u8], room: &mut [u8]) -> Reversed
     ensures value { result ≡ reverse_answer patch.now room.old }
     ensures room_after { room.new ≡ reverse_after patch.now room.old }
 {
-    reverse_patch(patch, room)
+    Reversed::from(reverse_patch(patch, room))
 }
 
 // Where the 32 bytes of refusal 9 stand in the patch image, and 0 and 0 where a patch call answers anything else.
@@ -115,11 +117,10 @@ pub extern "C" fn siodlomil_reverse(patch: &[u8], room: &mut [u8]) -> Reversed
 pub extern "C" fn siodlomil_offending(base: &[u8], patch: &[u8]) -> Offending
     ensures { OffendsAt base.now patch.now result }
 {
-    let verdict = verdict_of_both(base, patch);
-    if verdict.number != 9 {
+    let Err(Refusal::Absent(lacking)) = verdict_of_both(base, patch) else {
         return Offending { at: 0, length: 0 };
-    }
-    let place = verdict.place as usize;
+    };
+    let place = lacking as usize;
     Offending {
         at: record_start(place) as u64,
         length: 32,

@@ -12,12 +12,12 @@ use Rattle.rules.specs.Numbers.{sum_to, largest_to}
 use Rattle.rules.specs.Preempt.{cell, bit_at}
 use Rattle.rules.proofs.Table.Shape.{Shape}
 use Rattle.sets.specs.Places.{Below}
-use Rattle.preempt.specs.Tasks.{TasksRead, id_column, transaction_column, priority_column, size_column, threshold_column}
+use Rattle.preempt.specs.declared.columns.Columns.{Columns}
+use Rattle.preempt.specs.Tasks.{TasksRead}
 use Rattle.preempt.proofs.Reading.{id_is, transaction_is, priority_is, size_is, threshold_is}
 use Rattle.ceiling.specs.Near.{size_of}
-use Rattle.stack.specs.declared.call.Found.{Found}
 use Rattle.stack.specs.Levels.{levels_of}
-use Rattle.stack.specs.Figures.{own_task, OwnPaths, figures_in, FoundOver, FoundFor}
+use Rattle.stack.specs.Figures.{own_task, OwnPaths}
 use Rattle.rules.specs.Chains.{weight, Chain, Path, All, Before, Largest, Heaviest, related, size_at, id_at, priority_at, in_transaction, TransactionBound, level_bound}
 use Rattle.rules.specs.Chains.Before.{less, later, shorter}
 
@@ -85,19 +85,19 @@ largest_all n R cover S r below h =
     everywhere [] w = tt
     everywhere (i ∷ c) w = (true_T (bit_at cover i) (below i ∙ lt-ltb i n w.0), everywhere c w.1)
 
-module _ (rs : List (List ℕ)) (lent : List ℕ) (count : ℕ) (columns : List ℕ) (shape : Shape rs) (read : TasksRead rs count columns) where
-  pub sizes_same : size_of (size_column columns) ≡ size_at rs
+module _ (rs : List (List ℕ)) (lent : List ℕ) (count : ℕ) (columns : Columns) (shape : Shape rs) (read : TasksRead rs count columns) where
+  pub sizes_same : size_of columns.sizes ≡ size_at rs
   sizes_same = fun_ext (size_is rs count columns shape read)
 
-  priorities_same : (λ (i : ℕ). get_or (priority_column columns) i 0) ≡ priority_at rs
+  priorities_same : (λ (i : ℕ). get_or columns.priorities i 0) ≡ priority_at rs
   priorities_same = fun_ext (priority_is rs count columns shape read)
 
-  pub ids_same : (λ (i : ℕ). get_or (id_column columns) i 0) ≡ id_at rs
+  pub ids_same : (λ (i : ℕ). get_or columns.ids i 0) ≡ id_at rs
   ids_same = fun_ext (id_is rs count columns shape read)
 
   -- rows in which a cell counts as it does for the bounds are the relation
   pub rows_same : (rows : List ℕ)
-      → ((i j : ℕ) → cell rows i j ≡ ((ltb i count && ltb j count) && (ltb (get_or (threshold_column columns) i 0) (get_or (priority_column columns) j 0) && cell lent i j)))
+      → ((i j : ℕ) → cell rows i j ≡ ((ltb i count && ltb j count) && (ltb (get_or columns.thresholds i 0) (get_or columns.priorities j 0) && cell lent i j)))
       → cell rows ≡ related rs lent
   unfolding related
   rows_same rows cells =
@@ -109,7 +109,7 @@ module _ (rs : List (List ℕ)) (lent : List ℕ) (count : ℕ) (columns : List 
 
   module _ (rows : List ℕ) (same : cell rows ≡ related rs lent) where
     -- what is said of the number of tasks that were read, the rows and the sizes holds of the table, the map and its sizes
-    pub over_table : (Said : ℕ → (ℕ → ℕ → Bool) → (ℕ → ℕ) → Type 0) → Said count (cell rows) (size_of (size_column columns))
+    pub over_table : (Said : ℕ → (ℕ → ℕ → Bool) → (ℕ → ℕ) → Type 0) → Said count (cell rows) (size_of columns.sizes)
         → Said (task_count rs) (related rs lent) (size_at rs)
     over_table Said h =
         subst (λ (n : ℕ). Said n (related rs lent) (size_at rs)) read.count
@@ -118,26 +118,26 @@ module _ (rs : List (List ℕ)) (lent : List ℕ) (count : ℕ) (columns : List 
 
     -- the heaviest list over the rows, by places, is the heaviest over the relation, by ids
     pub heaviest_found : (Lists : ℕ → (ℕ → ℕ → Bool) → List ℕ → Type 0) → ((n : ℕ) (R : ℕ → ℕ → Bool) (d : List ℕ) → Lists n R d → Within n d)
-        → (c : List ℕ) → Heaviest (Lists count (cell rows)) (size_of (size_column columns)) (λ i. i) c
+        → (c : List ℕ) → Heaviest (Lists count (cell rows)) (size_of columns.sizes) (λ i. i) c
         → Heaviest (Lists (task_count rs) (related rs lent)) (size_at rs) (id_at rs) c
     heaviest_found Lists within c h =
         heaviest_ids (Lists (task_count rs) (related rs lent)) (task_count rs) (size_at rs) (id_at rs) c (within (task_count rs) (related rs lent)) shape.tasks_rise
         (over_table (λ n R S. Heaviest (Lists n R) S (λ i. i) c) h)
 
     -- a bound over lists of the rows is one over lists of the relation
-    pub over_relation : (Lists : ℕ → (ℕ → ℕ → Bool) → List ℕ → Type 0) (r : ℕ) → Largest (Lists count (cell rows)) (weight (size_of (size_column columns))) r
+    pub over_relation : (Lists : ℕ → (ℕ → ℕ → Bool) → List ℕ → Type 0) (r : ℕ) → Largest (Lists count (cell rows)) (weight (size_of columns.sizes)) r
         → Largest (Lists (task_count rs) (related rs lent)) (weight (size_at rs)) r
     over_relation Lists r h = over_table (λ n R S. Largest (Lists n R) (weight S) r) h
 
     -- a bound by transactions over the rows is one over the relation
-    pub own_found : (r : ℕ) → OwnPaths count rows (size_column columns) (transaction_column columns) (transactions rs) (length (transactions rs)) r → TransactionBound rs lent r
+    pub own_found : (r : ℕ) → OwnPaths count rows columns.sizes columns.transactions (transactions rs) (length (transactions rs)) r → TransactionBound rs lent r
     own_found r own =
         record {
           each = own.each;
           bound = λ k l.
-              largest_as (task_count rs) (related rs lent) (own_task (transaction_column columns) (transactions rs) k) (in_transaction rs k) (size_at rs) (own.each k)
+              largest_as (task_count rs) (related rs lent) (own_task columns.transactions (transactions rs) k) (in_transaction rs k) (size_at rs) (own.each k)
               (λ i h. ap (λ (n : ℕ). eqb n (number_of (get_or (transactions rs) k []))) (transaction_is rs count columns shape read i))
-              (over_relation (λ n R c. Path n R c × All (own_task (transaction_column columns) (transactions rs) k) c) (own.each k) (own.bound k l));
+              (over_relation (λ n R c. Path n R c × All (own_task columns.transactions (transactions rs) k) c) (own.each k) (own.bound k l));
           total = own.total;
         }
 
@@ -145,24 +145,8 @@ module _ (rs : List (List ℕ)) (lent : List ℕ) (count : ℕ) (columns : List 
   abbrev level_sum : (ℕ → ℕ) → (ℕ → ℕ) → ℕ → ℕ
   level_sum P S n = sum_to (λ p. largest_to (λ i. cond (eqb (P i) p) (S i) 0) n) (largest_to P n + 1)
 
-  levels_found : levels_of (priority_column columns) (size_column columns) count ≡ level_bound rs
+  pub levels_found : levels_of columns.priorities columns.sizes count ≡ level_bound rs
   levels_found =
-      ap (λ (P : ℕ → ℕ). level_sum P (size_of (size_column columns)) count) priorities_same
+      ap (λ (P : ℕ → ℕ). level_sum P (size_of columns.sizes) count) priorities_same
       ∙ ap (λ (S : ℕ → ℕ). level_sum (priority_at rs) S count) sizes_same
       ∙ ap (level_sum (priority_at rs) (size_at rs)) read.count
-
-  -- what was found over the rows of the relation is right for the table and the map
-  pub found_for : (rows : List ℕ) (found : Found) → cell rows ≡ related rs lent
-      → FoundOver count rows (size_column columns) (priority_column columns) (transaction_column columns) (transactions rs) found → FoundFor rs lent found
-  found_for rows found same over =
-      record {
-        right =
-            record {
-              chain = heaviest_found rows same Chain chain_within (figures_in found).chain over.heaviest;
-              path = over_relation rows same Path found.path over.path;
-              transactions = own_found rows same found.transactions over.own;
-              levels = over.levels ∙ levels_found;
-            };
-        chain = over.weighs ∙ ap (λ (S : ℕ → ℕ). weight S (figures_in found).chain) sizes_same;
-        room = over.room;
-      }

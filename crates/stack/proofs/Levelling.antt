@@ -10,7 +10,8 @@ use lib.ListN.{get_or, set as set_at, length-set}
 use lib.Seq.{get_or-set_same, get_or-set_other}
 use Rattle.rules.specs.Numbers.{sum_to, largest_to}
 use Rattle.rules.proofs.Numbers.{either, largest_to_step, largest_to_most, sum_to_rest}
-use Rattle.stack.specs.Levels.{size_with, level_in, levels_of, Sized, Blank, LargestSizes}
+use Rattle.stack.specs.Setting.{Arrays, RowsRise}
+use Rattle.stack.specs.Levels.{size_with, level_in, levels_of, Blank, LargestSizes}
 
 -- the largest is at most what each number is at most
 pub largest_to_light : (f : ℕ → ℕ) (n most : ℕ) → ((i : ℕ) → i < n → f i ≤ most) → largest_to f n ≤ most
@@ -18,10 +19,10 @@ unfolding largest_to
 largest_to_light f zero most h = omega arith
 largest_to_light f (suc n) most h = omega (arith, largest_to_light f n most (λ i l. h i (omega arith)), h n (omega arith))
 
-module _ {count : ℕ} {priorities sizes : List ℕ} (sized : Sized count priorities sizes) where
+module _ {count : ℕ} {rows priorities sizes : List ℕ} (arrays : Arrays count rows sizes) (rising : RowsRise count rows priorities) where
   -- no priority in use is above 255
   priorities_light : largest_to (λ i. get_or priorities i 0) count ≤ 255
-  priorities_light = largest_to_light (λ i. get_or priorities i 0) count 255 sized.priority_most
+  priorities_light = largest_to_light (λ i. get_or priorities i 0) count 255 rising.most
 
   -- no level is above the largest size
   pub level_light : (p : ℕ) → level_in priorities sizes count p ≤ 65535
@@ -29,7 +30,7 @@ module _ {count : ℕ} {priorities sizes : List ℕ} (sized : Sized count priori
       largest_to_light (size_with priorities sizes p) count 65535
       (λ i below.
       either (eqb (get_or priorities i 0) p)
-      (λ t. rw t (sized.size_most i below))
+      (λ t. rw t (arrays.light i below))
       (λ t. rw t (omega arith)))
 
   -- a level above the largest priority in use is 0

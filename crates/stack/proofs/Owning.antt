@@ -11,7 +11,7 @@ use Rattle.rules.specs.Numbers.{sum_to, lowest}
 use Rattle.rules.specs.Records.{number_of}
 use Rattle.rules.specs.Preempt.{cell, row_from, bit_at}
 use Rattle.rules.specs.Chains.{weight, Path, All, Largest}
-use Rattle.rules.proofs.Numbers.{either, lowest_passes, some_true, sum_to_zero, sum_to_step, sum_to_ext}
+use Rattle.rules.proofs.Numbers.{either, lowest_passes, sum_to_zero, sum_to_step, sum_to_ext}
 use Rattle.rules.proofs.Tests.{both_first}
 use Rattle.rules.proofs.Maps.{row_at}
 use Rattle.rules.proofs.Table.Order.{Rises, one_with}
@@ -20,7 +20,8 @@ use Rattle.sets.specs.Bits.{has_number}
 use Rattle.sets.specs.Places.{Inside}
 use Rattle.ceiling.specs.Near.{size_of}
 use Rattle.stack.specs.Setting.{Ready}
-use Rattle.stack.specs.Paths.{PathBound}
+use Rattle.stack.specs.Paths.{LargestAt, PathSums, PathBound}
+use Rattle.stack.proofs.Sums.{sums_bound}
 use Rattle.stack.specs.Figures.{own_task, OwnPaths}
 use Rattle.stack.proofs.Figures.{largest_as}
 
@@ -66,6 +67,14 @@ module _ (n : ℕ) (rows sizes numbers : List ℕ) (listed : List (List ℕ)) wh
       last : r ≡ each t
       last = rw (eq-eqb t t refl)
 
+-- so the largest of the best sums inside a transaction's members is added
+pub own_next : {n : ℕ} {rows sizes numbers : List ℕ} {listed : List (List ℕ)} {t total number set r : ℕ} {sums filled : List ℕ}
+    → OwnPaths n rows sizes numbers listed t total → n ≤ 64 → number ≡ number_of (get_or listed t []) → set ≡ row_from n (has_number numbers number)
+    → PathSums n rows sizes set sums filled → LargestAt filled set r → OwnPaths n rows sizes numbers listed (t + 1) (total + r)
+own_next {n} {rows} {sizes} {numbers} {listed} {t} {total} {number} {set} {r} own few here members summed largest =
+    own_more n rows sizes numbers listed t total r own
+    (members_own n rows sizes numbers listed t number set r here few members (sums_bound n rows sizes set summed largest))
+
 -- those that may preempt a task stand before it in the order, so that counted from the order's end places rise along a path
 module _ {n : ℕ} {rows sizes order : List ℕ} (ready : Ready n rows sizes order) where
   -- place k of the order is i's
@@ -75,8 +84,7 @@ module _ {n : ℕ} {rows sizes order : List ℕ} (ready : Ready n rows sizes ord
   -- each task has a place there
   stands : (i : ℕ) → i < n → (lowest (at i) n < n) × (get_or order (lowest (at i) n) 0 ≡ i)
   stands i h =
-      let (k, below, here) = ready.occurs i h in
-      let inside = ltb-true (lowest (at i) n) n (some_true (at i) n k below (eq-eqb (get_or order k 0) i here)) in
+      let inside = ltb-true (lowest (at i) n) n (ready.occurs i h) in
       (inside, eqb-true (get_or order (lowest (at i) n) 0) i (lowest_passes (at i) n inside))
 
   rises_from_end : (i j : ℕ) → i < n → j < n → T (cell rows i j) → n - lowest (at i) n < n - lowest (at j) n

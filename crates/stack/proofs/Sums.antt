@@ -6,12 +6,13 @@ use mathlib.Core.Bool.{true, false}
 use mathlib.Core.Path.{◌≡◌, refl, sym, subst, ◌∙◌}
 use mathlib.Core.Logic.{◌⊎◌, inl, ⊎_elim}
 use native.Mathlib.Omega.{arith}
+use borrow.Author.Tests.{eqb-true}
 use lib.ListN.{length, get_or, replicate, set as set_at, length-set}
 use lib.Seq.{get_or-set_same, get_or-set_other}
-use lib.Dec.{T}
+use lib.Dec.{T, eqb}
 use Rattle.rules.specs.Preempt.{cell, bit_at}
 use Rattle.rules.specs.Chains.{weight, Path, All}
-use Rattle.rules.proofs.Numbers.{either, never}
+use Rattle.rules.proofs.Numbers.{either, never, some_place}
 use Rattle.rules.proofs.Tests.{both_first, both_second, T_true, true_T}
 use Rattle.sets.specs.Places.{Without, Shared, Inside}
 use Rattle.ceiling.specs.Near.{size_of}
@@ -136,8 +137,8 @@ module _ {n : ℕ} {rows sizes order : List ℕ} {cover : ℕ} (ready : Ready n 
         within = omega arith;
         inside = λ j h. h;
         later = λ j h.
-            let (m, below, same) = ready.occurs j (inside j h) in
-            (m, omega arith, below, same);
+            let (m, below, same) = some_place (λ k. eqb (get_or order k 0) j) n (ready.occurs j (inside j h)) in
+            (m, omega arith, below, eqb-true (get_or order m 0) j same);
         settled = λ j h g. never (bit_at cover j) h g;
         light = λ j h g. never (bit_at cover j) h g;
         kept = λ j h. refl;
@@ -149,6 +150,13 @@ module _ {n : ℕ} {rows sizes order : List ℕ} {cover : ℕ} (ready : Ready n 
       let lowest = lowest-has rest some fits in
       let (m, above, below, same) = so_far.later (count_trailing_zeros 64 rest) lowest.there in
       omega arith
+
+  -- and the next place of the order is a task's
+  pub next_place : {before sums : List ℕ} {rest k place : ℕ} → Underway n rows sizes order cover before sums rest k → 0 < rest → cover < 2 ^ 64
+      → place ≡ get_or order k 0 → (k < n) × (place < n) × (n ≤ 64)
+  next_place {k = k} so_far some fits here =
+      let left = underway_left so_far some (omega (arith, so_far.within, fits)) in
+      (left, omega (arith, here, ready.places k left), ready.arrays.few)
 
   -- the next place of the order is not in the rest
   pub underway_skip : {before sums : List ℕ} {rest k : ℕ} → Underway n rows sizes order cover before sums rest k → k < n → bit_at rest (get_or order k 0) ≡ false → Underway n rows sizes order cover before sums rest (k + 1)

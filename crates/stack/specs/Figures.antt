@@ -1,18 +1,16 @@
 -- What is found for a table and a lent map: the chain and the bounds.
-use Rattle.std.specs.Prelude.{ℕ, ◌≤◌, ◌<◌, List, [], Bool, ◌≡◌, length, get_or, take, eqb}
+use Rattle.std.specs.Prelude.{ℕ, ◌<◌, List, [], Bool, ◌≡◌, length, get_or, eqb}
 use Rattle.rules.specs.Numbers.{sum_to}
 use Rattle.rules.specs.Records.{number_of}
 use Rattle.rules.specs.Preempt.{cell}
-use Rattle.rules.specs.Chains.{weight, Chain, Path, All, Largest, Heaviest, Figures, FiguresOf, chain_bound, related}
+use Rattle.rules.specs.Chains.{weight, Path, All, Largest, related}
 use Rattle.rules.specs.declared.Bounds.{Bounds}
 use Rattle.rules.specs.Calls.{BoundsWorkedOut}
-use Rattle.preempt.specs.Tasks.{priority_column, threshold_column}
+use Rattle.preempt.specs.declared.columns.Columns.{Columns}
 use Rattle.ceiling.specs.Near.{size_of}
-use Rattle.stack.specs.declared.call.Found.{Found}
 use Rattle.stack.specs.declared.call.Prepared.{Prepared}
 use Rattle.stack.specs.Order.{Falling}
 use Rattle.stack.specs.Related.{RelatedRows}
-use Rattle.stack.specs.Levels.{levels_of}
 
 -- the place's number is that of listed record t
 abbrev pub own_task : List ℕ → List (List ℕ) → ℕ → ℕ → Bool
@@ -25,35 +23,10 @@ pub record OwnPaths (n : ℕ) (rows sizes numbers : List ℕ) (listed : List (Li
       (t : ℕ) → t < count → Largest (λ c. Path n (cell rows) c × All (own_task numbers listed t) c) (weight (size_of sizes)) (each t)
   pub total : r ≡ sum_to each count
 
--- the figures that were found, with the chain by places
-abbrev pub figures_in : Found → Figures
-figures_in found =
-    record {
-      chain = take found.length found.places;
-      path = found.path;
-      transactions = found.transactions;
-      levels = found.levels;
-    }
-
--- what was found over the rows of the relation, the sizes, the priorities and the numbers of the tasks' transactions
-pub record FoundOver (n : ℕ) (rows sizes priorities numbers : List ℕ) (listed : List (List ℕ)) (found : Found) : Type 0 where
-  pub heaviest : Heaviest (Chain n (cell rows)) (size_of sizes) (λ i. i) (figures_in found).chain
-  pub weighs : found.chain ≡ weight (size_of sizes) (figures_in found).chain
-  pub room : found.length ≤ 64
-  pub path : Largest (Path n (cell rows)) (weight (size_of sizes)) found.path
-  pub own : OwnPaths n rows sizes numbers listed (length listed) found.transactions
-  pub levels : found.levels ≡ levels_of priorities sizes n
-
--- what was found is right for the table and the map
-pub record FoundFor (rs : List (List ℕ)) (rows : List ℕ) (found : Found) : Type 0 where
-  pub right : FiguresOf rs rows (figures_in found)
-  pub chain : found.chain ≡ chain_bound rs (figures_in found)
-  pub room : found.length ≤ 64
-
 -- what was prepared from the columns of the tasks and the lent map: the rows of the relation, and an order by falling priority
-pub record PreparedOver (n : ℕ) (columns lent : List ℕ) (prepared : Prepared) : Type 0 where
-  pub related : RelatedRows n (threshold_column columns) (priority_column columns) lent prepared.rows
-  pub falling : Falling n (priority_column columns) prepared.order
+pub record PreparedOver (n : ℕ) (columns : Columns) (lent : List ℕ) (prepared : Prepared) : Type 0 where
+  pub related : RelatedRows n columns.thresholds columns.priorities lent prepared.rows
+  pub falling : Falling n columns.priorities prepared.order
   pub order_count : length prepared.order ≡ 64
 
 -- what is said of a lent map holds, whichever lent map gives these rows of the relation

@@ -1,5 +1,5 @@
 -- The largest size at each priority, and their sum.
-use Rattle.std.specs.Prelude.{ℕ, ◌+◌, ◌≤◌, ◌<◌, List, cond, ◌≡◌, length, get_or, eqb}
+use Rattle.std.specs.Prelude.{ℕ, ◌+◌, List, cond, ◌≡◌, length, get_or, eqb}
 use Rattle.rules.specs.Numbers.{sum_to, largest_to}
 
 -- a task's size where it has the priority, else 0
@@ -13,14 +13,6 @@ level_in priorities sizes count p = largest_to (size_with priorities sizes p) co
 -- for each priority in use the largest size, added up
 abbrev pub levels_of : List ℕ → List ℕ → ℕ → ℕ
 levels_of priorities sizes count = sum_to (level_in priorities sizes count) (largest_to (λ i. get_or priorities i 0) count + 1)
-
--- what is known of the priorities and sizes of count tasks
-pub record Sized (count : ℕ) (priorities sizes : List ℕ) : Type 0 where
-  pub few : count ≤ 64
-  pub priority_count : length priorities ≡ 64
-  pub size_count : length sizes ≡ 64
-  pub priority_most : (i : ℕ) → i < count → get_or priorities i 0 ≤ 255
-  pub size_most : (i : ℕ) → i < count → get_or sizes i 0 ≤ 65535
 
 -- a size of 0 for each priority
 pub record Blank (largest : List ℕ) : Type 0 where

@@ -2,6 +2,7 @@ pub mod Order
 pub mod Setting
 pub mod Paths
 pub mod Naming
+pub mod Listed
 pub mod Search
 pub mod Related
 pub mod Levels

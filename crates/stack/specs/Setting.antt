@@ -1,5 +1,6 @@
 -- What is known of the tasks that bounds are found for.
-use Rattle.std.specs.Prelude.{ℕ, ◌≤◌, ◌<◌, List, ◌≡◌, length, get_or, T}
+use Rattle.std.specs.Prelude.{ℕ, ◌≤◌, ◌<◌, List, true, ◌≡◌, length, get_or, T, eqb}
+use Rattle.rules.specs.Numbers.{some}
 use Rattle.rules.specs.Preempt.{cell}
 
 -- n tasks, their map and their sizes
@@ -14,7 +15,7 @@ pub record Ready (n : ℕ) (rows sizes order : List ℕ) : Type 0 where
   pub arrays : Arrays n rows sizes
   pub order_count : length order ≡ 64
   pub places : (k : ℕ) → k < n → get_or order k 0 < n
-  pub occurs : (i : ℕ) → i < n → (k : ℕ) × (k < n) × (get_or order k 0 ≡ i)
+  pub occurs : (i : ℕ) → i < n → some (λ k. eqb (get_or order k 0) i) n ≡ true
   pub earlier : (k m : ℕ) → k < n → m < n → T (cell rows (get_or order k 0) (get_or order m 0)) → m < k
 
 -- a task may only be preempted by a task of higher priority, and priorities go from 1 to 255

@@ -3,10 +3,14 @@
 #![tactic(auto)]
 
 pub mod call;
+pub mod chain;
 mod levels;
+pub mod named;
 pub mod naming;
 mod order;
+pub mod ordered;
 pub mod own;
 pub mod path;
 pub mod related;
+pub mod rising;
 pub mod search;

@@ -3,35 +3,31 @@ ghost use Rattle.std.specs.Prelude.{◌≡◌, ◌≤◌, length};
 ghost use Rattle.rules.specs.Preempt.{row_from};
 ghost use Rattle.stack.specs.Related.{is_higher, RelatedRows};
 
-use sets::bits::with_bit_if;
-use sets::places::shared;
+use sets::places::{places_where, shared};
 
 // The places below count whose priority is above this threshold.
-fn higher(priorities: &[u32], count: usize, threshold: u32) -> u64
-    requires { (count ≤ 64) × (count ≤ length priorities.now) }
+fn higher(priorities: &[u32; 64], count: usize, threshold: u32) -> u64
+    requires few { count ≤ 64 }
     ensures { result ≡ row_from count (is_higher priorities.now threshold) }
 {
-    let mut set: u64 = 0;
-    let mut place: usize = 0;
-    while place < count {
-        set = with_bit_if(set, place, threshold < priorities[place]);
-        place += 1;
-    }
-    set
+    places_where(count, |place| threshold < priorities[place])
 }
 
 // The map with only those set cells that count: both places hold tasks, and the first has a threshold below the second's
 // priority.
-pub fn related_rows(thresholds: &[u32], priorities: &[u32], map: &[u64], count: usize) -> [u64; 64]
-    requires { (count ≤ 64) × (length thresholds.now ≡ 64) × (length priorities.now ≡ 64) × (64 ≤ length map.now) }
+pub fn related_rows(
+    thresholds: &[u32; 64],
+    priorities: &[u32; 64],
+    map: &[u64],
+    count: usize,
+) -> [u64; 64]
+    requires in_bounds { (count ≤ 64) × (64 ≤ length map.now) }
     ensures { RelatedRows count thresholds.now priorities.now map.now result }
 {
     let mut rows = [0u64; 64];
-    let mut place: usize = 0;
-    while place < count {
+    for place in 0..count {
         let above = higher(priorities, count, thresholds[place]);
         rows[place] = shared(above, map[place]);
-        place += 1;
     }
     rows
 }

@@ -24,7 +24,7 @@ loop-b-preserved c =
     let form = c.args.form in
     let flat = c.args.records.now in
     let inside : loop.b < blocks_of flat = omega arith in
-    let last : c.least-to.result ≡ min (480 * loop.b + 480) (length flat) = c.least-to.ensures in
+    let last : c.min-to.result ≡ min (480 * loop.b + 480) (length flat) = omega (arith, c.min-to.ensures) in
     let block : written.new.block ≡ block_of form (cut flat) loop.b = written.ensures ∙ rw (last, c.requires.1.0) (block_cut form flat loop.b c.requires.0 inside) in
     (omega arith, rw (block, loop.invariant.1) (blocks_more form flat c.args.room.now loop.b), omega arith)
 

@@ -5,9 +5,6 @@ use Rattle.image.proofs.write.write_body.Goals as goal
 
 pub returns : goal.returns
 returns c =
-    let headed = c.write_header in
-    let copied = c.copy_bytes in
-    let filled = c.fill_zero in
     body_written c.args.form c.args.total c.args.b c.args.records.now c.requires.0
-    c.args.block.now headed.new.block copied.new.to filled.new.part
-    headed.ensures (omega arith) copied.ensures (omega arith) filled.ensures
+    c.args.block.now c.write_header.new.block c.copy_from_slice.new.self c.fill.new.self
+    c.write_header.ensures (omega arith) c.copy_from_slice.ensures.after (omega arith) (c.fill.ensures.after (λ y same. same))

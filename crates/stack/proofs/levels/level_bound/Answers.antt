@@ -7,32 +7,32 @@ use Rattle.stack.proofs.levels.level_bound.Goals as goal
 
 pub loop-priority-init : goal.loop-priority-init
 loop-priority-init c =
-    let start = c.args in
-    (omega arith, sym (sum_to_zero (level_in start.priorities.now start.sizes.now start.count)))
+    let r = c.args.rising.now in
+    sym (sum_to_zero (level_in r.priorities r.sizes r.count))
 
 pub overflow_add-sum : goal.overflow_add-sum
 overflow_add-sum c =
+    let r = c.args.rising.now in
     omega (
       arith,
-      c.loop-priority.invariant.1,
+      c.loop-priority.invariant,
       c.largest_sizes-largest.ensures.levels c.loop-priority.priority,
-      level_light c.requires c.loop-priority.priority,
-      sum_to_light (level_in c.args.priorities.now c.args.sizes.now c.args.count) c.loop-priority.priority (λ p h. level_light c.requires p),
+      level_light r.arrays r.rises c.loop-priority.priority,
+      sum_to_light (level_in r.priorities r.sizes r.count) c.loop-priority.priority (λ p h. level_light r.arrays r.rises p),
     )
 
 pub loop-priority-preserved : goal.loop-priority-preserved
 loop-priority-preserved c =
-    let start = c.args in (
-      omega arith,
-      omega (
-        arith,
-        c.loop-priority.invariant.1,
-        c.largest_sizes-largest.ensures.levels c.loop-priority.priority,
-        sum_to_step (level_in start.priorities.now start.sizes.now start.count) c.loop-priority.priority,
-      ),
+    let r = c.args.rising.now in
+    omega (
+      arith,
+      c.loop-priority.invariant,
+      c.largest_sizes-largest.ensures.levels c.loop-priority.priority,
+      sum_to_step (level_in r.priorities r.sizes r.count) c.loop-priority.priority,
     )
 
 pub returns : goal.returns
 returns c =
+    let r = c.args.rising.now in
     let done : c.loop-priority.priority ≡ 256 = omega arith in
-    (rw done at c.loop-priority.invariant.1) ∙ levels_all c.requires
+    (rw done at c.loop-priority.invariant) ∙ levels_all r.arrays r.rises

@@ -5,14 +5,11 @@ use native.Mathlib.Omega.{arith}
 use Rattle.stack.proofs.related.related_rows.Goals as goal
 
 pub loop-place-init : goal.loop-place-init
-loop-place-init c = (omega arith, rows_none refl (zeros 64))
+loop-place-init c = rows_none refl (zeros 64)
 
 pub loop-place-preserved : goal.loop-place-preserved
 loop-place-preserved c =
-    let (within, so_far) = c.loop-place.invariant in (
-      omega arith,
-      rows_more c.higher-above.result c.shared.result so_far (omega arith) (omega arith) c.higher-above.ensures c.shared.ensures,
-    )
+    rows_more c.higher-above.result c.shared.result c.loop-place.invariant (omega arith) (omega arith) c.higher-above.ensures c.shared.ensures
 
 pub returns : goal.returns
-returns c = rows_all c.loop-place.invariant.1 (omega arith)
+returns c = rows_all c.loop-place.invariant (omega arith)
