@@ -6,11 +6,14 @@ ghost use Rattle.rules.specs.Calls.{over, patch_refusal, patch_accepted, PatchCa
 use crate::absent::verdict_of_both;
 use crate::carried::{Carried, carry_map};
 use crate::outcome::write_outcome;
+use crate::space::blank_bytes;
 use image::records::record_part;
-use image::write::copy_bytes;
 use preempt::map::write_rows;
 use rules::Patched;
 use table::judge_table;
+
+// The bytes of the longest table.
+const LONGEST_TABLE: usize = rules::TABLE_BLOCKS * rules::BLOCK_BYTES;
 
 // A refused call: number and place, and all else 0.
 fn refused(number: u32, place: u32) -> Patched
@@ -24,24 +27,11 @@ fn refused(number: u32, place: u32) -> Patched
     }
 }
 
-// Room for the longest table. The promise gives only the length, which lending it as a slice needs.
-fn image_space() -> [u8; 11_776]
-    ensures { 11776 ≡ length result }
-{
-    [0; 11_776]
-}
-
 // Whether a lent map or room is too short.
 fn is_short(map: usize, carried: usize, room: usize, outcome: usize) -> bool
     ensures { result ≡ (ltb map 64 || (ltb carried 64 || ltb room outcome)) }
 {
-    if map < 64 {
-        return true;
-    }
-    if carried < 64 {
-        return true;
-    }
-    room < outcome
+    map < 64 || carried < 64 || room < outcome
 }
 
 // Writes an accepted outcome and its map to the lent rooms.
@@ -52,7 +42,7 @@ fn write_rooms(image: &[u8], found: Carried, room: &mut [u8], carried: &mut [u64
     ensures carried_after { carried.new ≡ over found.map carried.old }
 {
     let rows = found.map;
-    copy_bytes(image, room);
+    room[..image.len()].copy_from_slice(image);
     write_rows(rows, carried);
     Patched {
         number: 0,
@@ -104,7 +94,7 @@ pub fn apply_patch(
 ) -> Patched
     ensures { PatchCall base.now patch.now map.now room.old carried.old result room.new carried.new }
 {
-    let mut space = image_space();
+    let mut space = blank_bytes::<LONGEST_TABLE>();
     apply_in(base, patch, map, room, carried, &mut space)
 }
 

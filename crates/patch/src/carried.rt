@@ -37,10 +37,8 @@ fn old_places(base: &[u8], ids: &[u32], count: usize) -> [u32; 64]
     let known = count_kind(base, 2);
     let base_ids = numbers_from(base, first, known);
     let mut places = [0u32; 64];
-    let mut i: usize = 0;
-    while i < count {
+    for i in 0..count {
         places[i] = place_of(&base_ids, known, ids[i]) as u32;
-        i += 1;
     }
     places
 }
@@ -49,11 +47,7 @@ fn old_places(base: &[u8], ids: &[u32], count: usize) -> [u32; 64]
 fn base_row(rows: &[u64], place: u32) -> u64
     ensures { result ≡ get_or rows.now place 0 }
 {
-    let i = place as usize;
-    if rows.len() <= i {
-        return 0;
-    }
-    rows[i]
+    rows.get(place as usize).copied().unwrap_or(0)
 }
 
 // Whether a row has a cell set. It has none beyond 64 cells.
@@ -61,10 +55,7 @@ fn is_cell_set(bits: u64, place: u32) -> bool
     ensures { result ≡ bit_at bits place }
 {
     let j = place as usize;
-    if 64 <= j {
-        return false;
-    }
-    is_set(bits, j)
+    j < 64 && is_set(bits, j)
 }
 
 // Whether cell j is set in the new row i of a task that is not touched: with a touched task it is decided, and any other is
@@ -102,11 +93,9 @@ fn carried_row(
     ensures { result ≡ row_from count (cell_carried columns.now bars touched old.now row i) }
 {
     let mut bits: u64 = 0;
-    let mut j: usize = 0;
-    while j < count {
+    for j in 0..count {
         let set = is_carried_set(columns, bars, touched, old, row, i, j);
         bits = with_bit_if(bits, j, set);
-        j += 1;
     }
     bits
 }
@@ -144,10 +133,8 @@ fn carried_rows(
     ensures { result ≡ map_from count (carried_by columns.now barred.now touched old.now rows.now) }
 {
     let mut map = [0u64; 64];
-    let mut i: usize = 0;
-    while i < count {
+    for i in 0..count {
         map[i] = new_row(columns, count, barred[i], touched, old, rows, i);
-        i += 1;
     }
     map
 }

@@ -8,4 +8,5 @@ mod carried;
 mod merge;
 mod outcome;
 pub mod parts;
+pub mod space;
 mod touched;

@@ -6,15 +6,12 @@ ghost use Rattle.rules.specs.Refusals.{accepted, table_verdict, patch_verdict, a
 ghost use Rattle.patch.specs.Written.{ImageWritten};
 
 use crate::merge::merge;
+use crate::space::blank_bytes;
 use image::write::write_image;
 use rules::Form;
 
-// Room for the records of any table and those of any patch that are put in. The promise gives only the length.
-fn record_space() -> [u8; 21_504]
-    ensures { 21504 ≡ length result }
-{
-    [0; 21_504]
-}
+// The bytes of the records of any table, 15 in each of 23 blocks, and of those that a patch puts in, at most 336.
+const MOST_RECORD_BYTES: usize = 21_504;
 
 // Writes the outcome's records one after another, and their image over the start of the room.
 fn write_in(base: &[u8], patch: &[u8], flat: &mut [u8], room: &mut [u8]) -> usize
@@ -35,6 +32,6 @@ pub fn write_outcome(base: &[u8], patch: &[u8], room: &mut [u8]) -> usize
     requires in_bounds { 11776 ≤ length room.old }
     ensures { ImageWritten (outcome (records base.now) (records patch.now)) result room.old room.new }
 {
-    let mut flat = record_space();
+    let mut flat = blank_bytes::<MOST_RECORD_BYTES>();
     write_in(base, patch, &mut flat, room)
 }

@@ -110,13 +110,10 @@ pub fn touched_tasks(
     requires holds_records { HoldsRecords patch.now }
     ensures { Marks count (touched_at (records patch.now) ids.now transactions.now count beside.now) result }
 {
-    let records = record_count(patch);
     let mut set: u64 = 0;
-    let mut k: usize = 0;
-    while k < records {
-        let fields = record_at(patch, k);
+    for place in 0..record_count(patch) {
+        let fields = record_at(patch, place);
         set = union(set, touched_by(ids, transactions, count, beside, fields));
-        k += 1;
     }
     set
 }
@@ -127,12 +124,8 @@ pub fn count_places(set: u64, count: usize) -> u32
     ensures { result ≡ count_to (bit_at set) count }
 {
     let mut found: u32 = 0;
-    let mut i: usize = 0;
-    while i < count {
-        if is_set(set, i) {
-            found += 1;
-        }
-        i += 1;
+    for i in 0..count {
+        found += u32::from(is_set(set, i));
     }
     found
 }

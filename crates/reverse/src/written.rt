@@ -5,14 +5,13 @@ ghost use Rattle.rules.specs.Calls.{over, reverse_of};
 
 use crate::turned::write_reversed;
 use image::write::write_image;
+use patch::space::blank_bytes;
 use rules::Form;
 
-// Room for the records of the longest patch, 15 in each of 45 blocks. The promise gives only the length.
-fn record_space() -> [u8; 21_600]
-    ensures { 21600 ≡ length result }
-{
-    [0; 21_600]
-}
+// The bytes of the records of the longest patch, 15 in each of 45 blocks.
+const MOST_RECORD_BYTES: usize = rules::PATCH_BLOCKS
+    * rules::RECORDS_PER_BLOCK
+    * rules::RECORD_BYTES;
 
 // Writes the records of the reverse one after another, and their image over the start of the room.
 fn write_in(patch: &[u8], flat: &mut [u8], room: &mut [u8]) -> usize
@@ -30,6 +29,6 @@ pub fn write_reverse(patch: &[u8], room: &mut [u8]) -> usize
     requires patch_in_bounds { length patch.now ≤ length room.old }
     ensures { (result ≡ length patch.now) × (room.new ≡ over (reverse_of patch.now) room.old) }
 {
-    let mut flat = record_space();
+    let mut flat = blank_bytes::<MOST_RECORD_BYTES>();
     write_in(patch, &mut flat, room)
 }

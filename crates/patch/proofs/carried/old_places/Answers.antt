@@ -40,7 +40,7 @@ numbers_from-base_ids-requires c =
     let s = shape base c.type_inv.base c.requires.base_value in record { count_bound = (omega (arith, c.count_kind-known.ensures.0, valid_few_tasks (records base) v), omega (arith, c.count_kind-first.ensures.0, c.count_kind-known.ensures.0, as_many base, length_split (records base) s.split)); holds_records = table_held base c.requires.base_value }
 
 pub loop-i-init : goal.loop-i-init
-loop-i-init c = (omega arith, column-none (place_at c.args.base.now c.args.ids.now))
+loop-i-init c = column-none (place_at c.args.base.now c.args.ids.now)
 
 pub place_of-requires : goal.place_of-requires
 place_of-requires c =
@@ -59,10 +59,10 @@ loop-i-preserved c =
     let s = c.loop-i in
     let d = listing a.base.now c.count_kind-first.result c.count_kind-known.result c.numbers_from-base_ids.result (λ k. (c.type_inv.base k).fits) c.requires.base_value c.count_kind-first.ensures.0 c.count_kind-known.ensures.0 c.numbers_from-base_ids.ensures in
     let here : c.place_of.result ≡ place_at a.base.now a.ids.now s.i = c.place_of.ensures ∙ place_in (tasks (records a.base.now)) c.numbers_from-base_ids.result c.count_kind-known.result d (get_or a.ids.now s.i 0) in
-    (omega arith, column_filled s.i (place_at a.base.now a.ids.now) s.places c.place_of.result (omega arith) s.invariant.1 here)
+    column_filled s.i (place_at a.base.now a.ids.now) s.places c.place_of.result (omega arith) s.invariant here
 
 pub returns : goal.returns
 returns c =
     let a = c.args in
     let end : c.loop-i.i ≡ a.count = omega arith in
-    c.loop-i.invariant.1 ∙ ap (λ (n : ℕ). column n (place_at a.base.now a.ids.now)) end
+    c.loop-i.invariant ∙ ap (λ (n : ℕ). column n (place_at a.base.now a.ids.now)) end
