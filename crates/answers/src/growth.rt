@@ -19,11 +19,7 @@ pub fn answer(input: &mut impl Read, out: &impl Print, case: &Case) -> Result<()
     print!(out; "G")?;
     print::verdict(out, room_left(image, map, case.reserve(), figures))?;
     print!(out; " {} |", digest::of_numbers(figures))?;
-    let shown = chain_through(image, map, case.id(), ids);
-    print!(out;
-        " {} {} {} {}",
-        shown.number, shown.place, shown.weight, shown.length
-    )?;
+    print::shown(out, chain_through(image, map, case.id(), ids))?;
     println!(out; " {}", digest::of_numbers(ids))?;
     Ok(())
 }

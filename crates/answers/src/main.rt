@@ -25,6 +25,7 @@ use crate::case::Case;
 use crate::stop::Stop;
 use std::io;
 use std::io::Read;
+use table::{patch_verdict, table_verdict};
 
 // More cases than any stream of the gate has.
 const MOST_CASES: u32 = 10_000_000;
@@ -33,8 +34,20 @@ const MOST_CASES: u32 = 10_000_000;
 fn answer_next(input: &mut impl Read, out: &impl Print) -> Result<(), Stop> {
     let case = Case::read(input)?;
     match case.call {
-        b'T' => verdicts::answer(input, out, &case, 'T', |image| table::table_verdict(image)),
-        b'P' => verdicts::answer(input, out, &case, 'P', |image| table::patch_verdict(image)),
+        b'T' => verdicts::answer(
+            input,
+            out,
+            &case,
+            'T',
+            |image| table_verdict(image).map(|_| ()),
+        ),
+        b'P' => verdicts::answer(
+            input,
+            out,
+            &case,
+            'P',
+            |image| patch_verdict(image).map(|_| ()),
+        ),
         b'M' => maps::answer(input, out, &case),
         b'B' => bounds::answer(input, out, &case),
         b'H' => limits::answer(input, out, &case),

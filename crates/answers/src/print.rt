@@ -1,5 +1,8 @@
-// The parts of an answer's line: each number stands behind a space.
-use rules::{Bounds, Patched, Reversed, Verdict};
+// The parts of an answer's line, in the order of the stream's description: each number stands behind a space.
+use rules::{
+    Bounds, BoundsFound, BoundsWithin, ChainFound, PatchFound, Patched, Reason, Reasoned, Refusal,
+    Reversed, Shown, Verdict, WithinFound,
+};
 use std::fmt::Display;
 use std::io;
 
@@ -11,13 +14,15 @@ pub fn first<T: Display>(out: &impl Print, numbers: &[T], count: usize) -> io::R
     Ok(())
 }
 
-// The numbers of a check, as all of the following in the order of the stream's description.
-pub fn verdict(out: &impl Print, told: Verdict) -> io::Result<()> {
+// The numbers of a check.
+pub fn verdict(out: &impl Print, check: Result<(), Refusal>) -> io::Result<()> {
+    let told = Verdict::from(check);
     print!(out; " {} {}", told.number, told.place)
 }
 
 // The numbers of a bound call.
-pub fn bounds(out: &impl Print, told: Bounds) -> io::Result<()> {
+pub fn bounds(out: &impl Print, call: Result<BoundsFound, Refusal>) -> io::Result<()> {
+    let told = Bounds::from(call);
     print!(out;
         " {} {} {} {}",
         told.number, told.place, told.tasks, told.chain
@@ -28,8 +33,42 @@ pub fn bounds(out: &impl Print, told: Bounds) -> io::Result<()> {
     )
 }
 
+// The numbers of a bound call with a limit.
+pub fn within(out: &impl Print, call: Result<WithinFound, Refusal>) -> io::Result<()> {
+    let told = BoundsWithin::from(call);
+    print!(out;
+        " {} {} {} {}",
+        told.number, told.place, told.tasks, told.chain
+    )?;
+    print!(out;
+        " {} {} {} {}",
+        told.path, told.transactions, told.levels, told.length
+    )?;
+    print!(out; " {}", told.opened)
+}
+
+// The numbers of a chain call for one task.
+pub fn shown(out: &impl Print, call: Result<ChainFound, Refusal>) -> io::Result<()> {
+    let told = Shown::from(call);
+    print!(out;
+        " {} {} {} {}",
+        told.number, told.place, told.weight, told.length
+    )
+}
+
+// The numbers of a reason call.
+pub fn reasoned(out: &impl Print, call: Result<Reason, Refusal>) -> io::Result<()> {
+    let told = Reasoned::from(call);
+    print!(out; " {} {} {}", told.number, told.place, told.reason)
+}
+
 // The numbers of a patch call, and the length of the offending part.
-pub fn patched(out: &impl Print, told: Patched, offending: &[u8]) -> io::Result<()> {
+pub fn patched(
+    out: &impl Print,
+    call: Result<PatchFound, Refusal>,
+    offending: &[u8],
+) -> io::Result<()> {
+    let told = Patched::from(call);
     print!(out;
         " {} {} {} {}",
         told.number, told.place, told.touched, told.length
@@ -38,6 +77,7 @@ pub fn patched(out: &impl Print, told: Patched, offending: &[u8]) -> io::Result<
 }
 
 // The numbers of a reverse call.
-pub fn reversed(out: &impl Print, told: Reversed) -> io::Result<()> {
+pub fn reversed(out: &impl Print, call: Result<u32, Refusal>) -> io::Result<()> {
+    let told = Reversed::from(call);
     print!(out; " {} {} {}", told.number, told.place, told.length)
 }

@@ -1,8 +1,6 @@
 // The reason call, `W`: the reasons of all pairs of places, and of the pairs of ids that are asked.
-ghost use Rattle.std.specs.Prelude.{◌≡◌, true, ◌≤◌, ◌<◌, length};
+ghost use Rattle.std.specs.Prelude.{◌≡◌, ◌≤◌, ◌<◌, length};
 ghost use Rattle.rules.specs.Blocks.{records};
-ghost use Rattle.rules.specs.Records.{task_count};
-ghost use Rattle.rules.specs.Refusals.{accepted, table_verdict};
 ghost use Rattle.table.specs.Precedence.{before_map};
 
 use crate::case::Case;
@@ -11,11 +9,10 @@ use crate::stop::Stop;
 use crate::{digest, print};
 use reason::call::find_reason;
 use reason::places::reason_at;
-use reason::told::number_of;
-use rules::Verdict;
+use rules::Refusal;
 use std::io;
 use std::io::Read;
-use table::count::count_kind;
+use table::accepted::Table;
 use table::judge_table;
 
 // The pairs of 64 places.
@@ -26,41 +23,35 @@ const HALF: u64 = 4_294_967_296;
 
 // Sets the reasons of the task at place i with each task: the number of that of places i and j at 64 * i + j. The rows of before say
 // which tasks come before which.
-fn set_row(image: &[u8], before: &[u64; 64], i: usize, count: usize, told: &mut [u8])
-    requires image_value { accepted (table_verdict image.now) ≡ true }
-    requires count_value { count ≡ task_count (records image.now) }
-    requires before_value { before.now ≡ before_map (records image.now) }
-    requires i_lt_count { i < count }
-    requires few { count ≤ 64 }
+fn set_row(table: &Table, before: &[u64; 64], i: usize, told: &mut [u8])
+    requires before_known { before.now ≡ before_map (records table.now.image.now) }
+    requires in_bounds { i < table.now.tasks }
+    requires few { table.now.tasks ≤ 64 }
     requires room { 4096 ≤ length told.old }
 {
-    for j in 0..count {
-        told[64 * i + j] = number_of(reason_at(image, before, i, j)) as u8;
+    for j in 0..table.tasks {
+        told[64 * i + j] = u32::from(reason_at(table, before, i, j)) as u8;
     }
 }
 
-// The verdict on a table; where it is accepted, the reasons of all its pairs of places are set.
-fn set_all(image: &[u8], told: &mut [u8]) -> Verdict
+// The refusal of a table; where it is accepted, the reasons of all its pairs of places are set.
+fn set_all(image: &[u8], told: &mut [u8]) -> Result<(), Refusal>
     requires { 4096 ≤ length told.old }
 {
     let mut before = [0u64; 64];
-    let verdict = judge_table(image, &mut before);
-    if verdict.number != 0 {
-        return verdict;
+    let table = judge_table(image, &mut before)?;
+    for i in 0..table.tasks {
+        set_row(&table, &before, i, told);
     }
-    let count = count_kind(image, 2);
-    for i in 0..count {
-        set_row(image, &before, i, count, told);
-    }
-    verdict
+    Ok(())
 }
 
 // The verdict, the digest of all pairs' reasons, and how many pairs have each.
 fn answer_all(out: &impl Print, image: &[u8]) -> io::Result<()> {
     let mut told = filled::<u8, PAIRS>(0);
-    let verdict = set_all(image, &mut told);
+    let check = set_all(image, &mut told);
     print!(out; "W")?;
-    print::verdict(out, verdict)?;
+    print::verdict(out, check)?;
     print!(out; " {}", digest::of_bytes(&told))?;
     for number in 1..=6 {
         print!(out; " {}", told.iter().filter(|one| **one == number).count())?;
@@ -71,8 +62,10 @@ fn answer_all(out: &impl Print, image: &[u8]) -> io::Result<()> {
 // A bar and the answer to each question, which is a row: the id of the low task in its low half, of the high one above it.
 fn answer_questions(out: &impl Print, image: &[u8], questions: &[u64]) -> io::Result<()> {
     for question in questions {
-        let found = find_reason(image, (*question % HALF) as u32, (*question / HALF) as u32);
-        print!(out; " | {} {} {}", found.number, found.place, found.reason)?;
+        let low = (*question % HALF) as u32;
+        let high = (*question / HALF) as u32;
+        print!(out; " |")?;
+        print::reasoned(out, find_reason(image, low, high))?;
     }
     Ok(())
 }

@@ -21,11 +21,14 @@ impl Standing<'_> {
         let image = self.image;
         let map = self.map;
         let mut ids = filled::<u16, IDS>(0);
-        let found = find_bounds(image, map, &mut ids);
+        let bounds = find_bounds(image, map, &mut ids);
         print!(out; " {} {}", digest::of_bytes(image), digest::of_numbers(map))?;
-        print::bounds(out, found)?;
-        print::first(out, &ids, found.length as usize)?;
-        print::first(out, map, found.tasks as usize)
+        print::bounds(out, bounds)?;
+        if let Ok(found) = bounds {
+            print::first(out, &ids, found.length as usize)?;
+            print::first(out, map, found.tasks as usize)?;
+        }
+        Ok(())
     }
 
     // Puts a patch to what stands, and prints a bar, the numbers of the call and the offending part. Answers how long the outcome
@@ -44,9 +47,6 @@ impl Standing<'_> {
         print!(out; " |")?;
         print::patched(out, patched, offending)?;
         print::first(out, offending, offending.len())?;
-        if patched.number != 0 {
-            return Ok(None);
-        }
-        Ok(Some(patched.length as usize))
+        Ok(patched.ok().map(|found| found.length as usize))
     }
 }

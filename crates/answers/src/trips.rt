@@ -41,7 +41,7 @@ pub fn answer(input: &mut impl Read, out: &impl Print, case: &Case) -> Result<()
     let patch = read_bytes(input, &mut patch_space, case.patch_bytes)?;
     let map = read_numbers(input, &mut map_space, case.read_rows)?;
     let made = reverse_patch(patch, &mut reverse_space);
-    let reverse = start_of(&mut reverse_space, made.length as usize)?;
+    let reverse = start_of(&mut reverse_space, made.unwrap_or(0) as usize)?;
     let first = Standing { image, map };
     print!(out; "U")?;
     first.print(out)?;

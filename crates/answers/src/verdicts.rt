@@ -1,12 +1,13 @@
 // The calls that only judge an image: `T` as a table, `P` as a patch.
 use crate::case::Case;
+use crate::print;
 use crate::space::{IMAGE_BYTES, filled, read_bytes};
 use crate::stop::Stop;
-use rules::Verdict;
+use rules::Refusal;
 use std::io::Read;
 
 // Answers one case, by what judges its image.
-pub fn answer<J: Fn(&[u8]) -> Verdict + Drop>(
+pub fn answer<J: Fn(&[u8]) -> Result<(), Refusal> + Drop>(
     input: &mut impl Read,
     out: &impl Print,
     case: &Case,
@@ -17,7 +18,8 @@ pub fn answer<J: Fn(&[u8]) -> Verdict + Drop>(
 {
     let mut space = filled::<u8, IMAGE_BYTES>(0);
     let image = read_bytes(input, &mut space, case.image_bytes)?;
-    let verdict = judge(image);
-    println!(out; "{letter} {} {}", verdict.number, verdict.place)?;
+    print!(out; "{letter}")?;
+    print::verdict(out, judge(image))?;
+    println!(out;)?;
     Ok(())
 }
