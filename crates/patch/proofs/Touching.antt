@@ -18,7 +18,7 @@ use Rattle.rules.proofs.Maps.{row_at}
 use Rattle.rules.proofs.Tests.{same_tests}
 use Rattle.rules.specs.Blocks.{records}
 use Rattle.table.specs.Numbers.{Rising, Directory, place_among}
-use Rattle.table.proofs.Tables.{shape}
+use Rattle.table.proofs.Tables.{shape, few_records}
 use Rattle.preempt.specs.declared.tasks.Tasks.{Tasks}
 use Rattle.preempt.proofs.Reading.{ids_directory}
 use Rattle.sets.specs.Bits.{has_number}
@@ -113,3 +113,6 @@ module _ (p : List ℕ) (id transaction : ℕ) where
   -- a record of another kind concerns none
   pub concerns-none : (kind_of p ≡ 1 → ⊥) → (kind_of p ≡ 2 → ⊥) → (kind_of p ≡ 3 → ⊥) → concerns p id transaction ≡ false
   concerns-none first second third = rw (ne_eqb (kind_of p) 1 first, ne_eqb (kind_of p) 2 second, ne_eqb (kind_of p) 3 third)
+
+-- what decides which tasks are found by an id, for the functions that look them up
+pub ruleset finding = (ids_listed, few_records, place_inside, marks_place, marks_absent, marks_beside, marks_beside-none)

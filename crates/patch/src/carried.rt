@@ -67,6 +67,7 @@ fn base_row(rows: &[u64], place: u32) -> u64
 }
 
 // Whether a row has a cell set. It has none beyond 64 cells.
+#[tactic(auto, using(crate::proofs::Carrying::no_such_cell))]
 fn is_cell_set(bits: u64, place: u32) -> bool
     ensures { result ≡ bit_at bits place }
 {
@@ -77,6 +78,7 @@ fn is_cell_set(bits: u64, place: u32) -> bool
 impl<'a> Standing<'a> {
     // Whether cell j is set in the new row i of a task that is not touched: with a touched task it is decided, and any other is
     // that of the base's row, which has it where the other task stood.
+    #[tactic(auto, unfolding(crate::specs::Carried::cell_carried))]
     fn is_carried_set(&self, row: u64, i: usize, j: usize) -> bool
         requires { (i < 64) × (j < 64) }
         ensures { result ≡ cell_carried self.now row i j }

@@ -17,6 +17,7 @@ use table::accepted::Patch;
 use table::place::place_of;
 
 // The task with an id, or none.
+#[tactic(auto, using(crate::proofs::Touching::finding))]
 fn task_with(tasks: &Tasks, id: u32) -> u64
     ensures { Marks tasks.now.table.tasks (λ i. eqb id (get_or tasks.now.columns.ids i 0)) result }
 {
@@ -44,6 +45,7 @@ fn concerned(tasks: &Tasks, fields: &[u8]) -> u64
 }
 
 // The tasks that come before or after the one with an id, where a task has it.
+#[tactic(auto, using(crate::proofs::Touching::finding))]
 fn tasks_beside(related: &Related, id: u32) -> u64
     ensures { Marks related.now.tasks.table.tasks (beside_in related.now.tasks.columns.ids related.now.tasks.table.tasks related.now.beside id) result }
 {
