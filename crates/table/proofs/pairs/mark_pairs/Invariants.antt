@@ -9,7 +9,4 @@ use Rattle.table.proofs.pairs.mark_pairs.Given as goal
 
 abbrev pub invariant-loop-k : goal.invariant-loop-k
 invariant-loop-k l =
-    (l.k ≤ l.count) × (l.first + l.count ≤ record_count l.image) × (l.rows ≡ map_from (task_count (records l.image)) (marked_to l.sort (records l.image) l.initial.rows l.k))
-
-abbrev pub decreases-loop-k : goal.decreases-loop-k
-decreases-loop-k l = l.count - l.k
+    (l.first + l.count ≤ record_count l.image) × (l.rows ≡ map_from (task_count (records l.image)) (marked_to l.sort (records l.image) l.initial.rows l.k))
