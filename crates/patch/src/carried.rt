@@ -45,7 +45,7 @@ fn old_place(base: &Table, base_ids: &[u32; 64], id: u32) -> u32
     requires { Directory (Records·tasks (records base.now.image.now)) base_ids.now base.now.tasks }
     ensures { result ≡ Records·place_of (Records·tasks (records base.now.image.now)) id }
 {
-    place_of(base_ids, base.tasks, id) as u32
+    place_of(base_ids, base.tasks, id).unwrap_or(base.tasks) as u32
 }
 
 // Where the base has the tasks of the outcome. Its ids are read once for all of them.

@@ -8,7 +8,7 @@ use Rattle.patch.proofs.carried.ids_of.Goals as goal
 pub numbers_from-requires : goal.numbers_from-requires
 numbers_from-requires c =
     let t = c.args.table.now in
-    record { count_bound = ((few_records t).1, omega (arith, kinds_counted t)); holds_records = table_held t.image.now t.accepted }
+    record { few = (few_records t).1; in_bounds = omega (arith, kinds_counted t); held = table_held t.image.now t.accepted }
 
 pub returns : goal.returns
 returns c =

@@ -1,9 +1,12 @@
 -- The ids rise, so that one that is found stands at its place alone.
-use Rattle.patch.proofs.Touching.{ids_listed, place_inside, marks_place}
+use mathlib.Core.Path.{sym}
+use Rattle.patch.proofs.Touching.{ids_listed, marks_place, marks_absent}
 use Rattle.patch.proofs.touched.task_with.Goals as goal
 
-pub returns : goal.returns
-returns c =
+pub returns-in-Some : goal.returns-in-Some
+returns-in-Some c =
     let t = c.args.tasks.now in
-    let below = place_inside t.columns.ids t.table.tasks c.args.id c.place_of-place.result c.place_of-place.ensures c.if-place-tasks.false in
-    rw c.power.ensures (marks_place t.columns.ids t.table.tasks c.args.id c.place_of-place.result (ids_listed t).rising c.place_of-place.ensures below)
+    rw c.power.ensures (marks_place t.columns.ids t.table.tasks c.args.id c.in-Some.place (ids_listed t).rising c.in-Some.ensures.placed c.in-Some.ensures.inside)
+
+pub returns-in-None : goal.returns-in-None
+returns-in-None c = let t = c.args.tasks.now in marks_absent t.columns.ids t.table.tasks c.args.id (sym c.in-None.ensures.placed)
