@@ -1,6 +1,12 @@
 -- Records of one list met in turn among those of another.
-use Rattle.std.specs.Prelude.{ℕ, zero, suc, ◌+◌, List, [], cond, ◌&&◌, length, get_or, ltb}
+use Rattle.std.specs.Prelude.{ℕ, zero, suc, ◌+◌, List, [], cond, ◌&&◌, length, get_or, drop, ltb}
+use Rattle.rules.specs.Numbers.{up_to}
+use Rattle.rules.specs.Blocks.{record_at}
 use Rattle.rules.specs.Patches.{same}
+
+-- the records of an image from one number up to another
+abbrev pub records_left : List ℕ → ℕ → ℕ → List (List ℕ)
+records_left image next count = drop next (up_to (record_at image) count)
 
 -- the number after k where the list has a record k and it is this one, and else k
 unfoldable pub past : List (List ℕ) → List ℕ → ℕ → ℕ

@@ -1,15 +1,49 @@
-// A reader of an image's records: it holds the image and the number of the record that comes next.
-ghost use Rattle.std.specs.Prelude.{◌≡◌, ◌+◌, ◌<◌, ◌^◌, leb};
+// An image's records, gone through one after another.
+ghost use Rattle.std.specs.Prelude.{◌≡◌, leb};
+ghost use Rattle.std.specs.Iterator.{YieldsFirstRef, item_count};
 ghost use Rattle.rules.specs.Blocks.{record_at, record_count, records};
-ghost use Rattle.image.specs.InTurn.{past, met_among};
+ghost use Rattle.rules.specs.Patches.{same};
+ghost use Rattle.image.specs.InTurn.{records_left, past, met_among};
 
-use crate::bytes::is_same;
 use crate::records::{record_count, record_part};
 
-#[derive(Clone, Copy)]
-pub struct Reader<'a> {
+// The records of an image from one number up to another, each as a part of the image.
+#[derive(Clone, Copy, Debug)]
+pub struct Records<'a> {
     pub image: &'a [u8],
     pub next: usize,
+    pub count: usize,
+}
+
+impl<'a> Records<'a> {
+    // All records of an image.
+    pub fn of(image: &'a [u8]) -> Records<'a>
+        ensures { records_left result.image.now result.next result.count ≡ records image.entry.now }
+    {
+        Records {
+            image,
+            next: 0,
+            count: record_count(image),
+        }
+    }
+}
+
+impl<'a> Iterator for Records<'a> {
+    type Item = &'a [u8];
+
+    ghost next_gives = { YieldsFirstRef (λ s. records_left s.image.now s.next s.count) };
+
+    ghost remaining = { item_count (λ s. records_left s.image.now s.next s.count) };
+
+    #[tactic(auto, using(crate::proofs::InTurn::left_more, crate::proofs::InTurn::left_none))]
+    fn next(&mut self) -> Option<&'a [u8]> {
+        if self.count <= self.next {
+            return None;
+        }
+        let fields = record_part(self.image, self.next);
+        self.next += 1;
+        Some(fields)
+    }
 }
 
 // Whether an image holds no record of this number.
@@ -19,71 +53,34 @@ pub fn is_past(image: &[u8], k: usize) -> bool
     record_count(image) <= k
 }
 
+// Whether the bytes of an image's record are these.
+#[tactic(auto, using(crate::proofs::InTurn::equal_same))]
+fn is_record(image: &[u8], k: usize, fields: &[u8]) -> bool
+    ensures { result ≡ same (record_at image.now k) fields.now }
+{
+    record_part(image, k) == fields
+}
+
 // The number after k where the image's record k is these bytes, and else k.
+#[tactic(auto, using(crate::proofs::InTurn::past_last, crate::proofs::InTurn::past_inside, crate::proofs::InTurn::count_fits))]
 pub fn number_past(image: &[u8], k: usize, fields: &[u8]) -> usize
     ensures { result ≡ past (records image.now) fields.now k }
 {
-    if is_past(image, k) {
-        return k;
-    }
-    if is_same(record_part(image, k), fields) {
+    if !is_past(image, k) && is_record(image, k, fields) {
         k + 1
     } else {
         k
     }
 }
 
-// A reader that stands at an image's first record.
-pub fn start<'a>(image: &'a [u8]) -> Reader<'a>
-    ensures { (result.image ≡ image.entry) × (result.next ≡ 0) }
-{
-    Reader { image, next: 0 }
-}
-
-// Whether no record is left.
-pub fn is_done<'a>(reader: Reader<'a>) -> bool
-    ensures { result ≡ leb (record_count reader.entry.image.now) reader.entry.next }
-{
-    is_past(reader.image, reader.next)
-}
-
-// The record that comes next, as a part of the image; past the image's end it is shorter or empty.
-pub fn next_record<'a>(reader: Reader<'a>) -> &'a [u8]
-    ensures { result.now ≡ record_at reader.entry.image.now reader.entry.next }
-{
-    record_part(reader.image, reader.next)
-}
-
-// The reader one record further.
-pub fn after<'a>(reader: Reader<'a>) -> Reader<'a>
-    requires { reader.next + 1 < 2 ^ 64 }
-    ensures { (result.image ≡ reader.entry.image) × (result.next ≡ reader.entry.next + 1) }
-{
-    Reader {
-        image: reader.image,
-        next: reader.next + 1,
-    }
-}
-
-// The reader one record further where its record is these bytes, and else the reader as it stands.
-pub fn past_record<'a, 'b>(reader: Reader<'a>, fields: &'b [u8]) -> Reader<'a>
-    ensures { (result.image ≡ reader.entry.image) × (result.next ≡ past (records reader.entry.image.now) fields.now reader.entry.next) }
-{
-    Reader {
-        image: reader.image,
-        next: number_past(reader.image, reader.next, fields),
-    }
-}
-
 // How many records of the other image, from its first on, are met in turn among the image's records.
+#[tactic(auto, using(crate::proofs::InTurn::met_before))]
 pub fn met_among(image: &[u8], other: &[u8]) -> usize
     ensures { result ≡ met_among (records image.now) (records other.now) (record_count image.now) }
 {
-    let mut here = start(image);
-    let mut sought = start(other);
-    while !is_done(here) {
-        sought = past_record(sought, next_record(here));
-        here = after(here);
+    let mut met = 0;
+    for fields in Records::of(image) {
+        met = number_past(other, met, fields);
     }
-    sought.next
+    met
 }

@@ -2,17 +2,13 @@
 ghost use Rattle.std.specs.Prelude.{◌≡◌, ◌+◌, ◌^◌, ◌≤◌, ◌<◌, length};
 ghost use Rattle.rules.specs.Blocks.{record_start, record_at, record_count};
 
-use crate::bytes::{byte_at, least};
+use crate::bytes::byte_at;
 
 // How many records an image holds, by the count of its last block.
 pub fn record_count(image: &[u8]) -> usize
     ensures { result ≡ record_count image.now }
 {
-    let total = image.len() / rules::BLOCK_BYTES;
-    if total == 0 {
-        return byte_at(image, 4) as usize;
-    }
-    let full = total - 1;
+    let full = (image.len() / rules::BLOCK_BYTES).saturating_sub(1);
     let held = byte_at(image, rules::BLOCK_BYTES * full + 4) as usize;
     rules::RECORDS_PER_BLOCK * full + held
 }
@@ -39,6 +35,7 @@ pub fn record_at(image: &[u8], k: usize) -> &[u8]
 }
 
 // The bytes of record k that lie in the image, as a part of it: past the image's end there are fewer than 32 or none.
+#[tactic(auto, using(crate::proofs::Parts::part_clipped, crate::proofs::Parts::part_past))]
 pub fn record_part(image: &[u8], k: usize) -> &[u8]
     ensures { result.now ≡ record_at image.now k }
 {
@@ -47,7 +44,7 @@ pub fn record_part(image: &[u8], k: usize) -> &[u8]
         return &image[length..length];
     }
     let start = record_start(k);
-    let from = least(start, length);
-    let to = least(start + rules::RECORD_BYTES, length);
+    let from = start.min(length);
+    let to = (start + rules::RECORD_BYTES).min(length);
     &image[from..to]
 }

@@ -10,13 +10,17 @@ use lib.Dec.{ltb, eqb}
 use lib.ListN.{get_or}
 use Rattle.rules.specs.Numbers.{some}
 use Rattle.rules.specs.Preempt.{row_from}
-use Rattle.rules.specs.Records.{kind_of, number_of, second_of}
+use Rattle.rules.specs.Records.{kind_of, number_of, second_of, tasks}
 use Rattle.rules.specs.Patches.{concerns}
 use Rattle.rules.proofs.Numbers.{either, never, lowest_le, lowest_passes, lowest_below, lowest_zero, some_false, some_more}
 use Rattle.rules.proofs.Bits.{bit_none, bit_of_power, bit-or}
 use Rattle.rules.proofs.Maps.{row_at}
 use Rattle.rules.proofs.Tests.{same_tests}
-use Rattle.table.specs.Numbers.{Rising, place_among}
+use Rattle.rules.specs.Blocks.{records}
+use Rattle.table.specs.Numbers.{Rising, Directory, place_among}
+use Rattle.table.proofs.Tables.{shape}
+use Rattle.preempt.specs.declared.tasks.Tasks.{Tasks}
+use Rattle.preempt.proofs.Reading.{ids_directory}
 use Rattle.sets.specs.Bits.{has_number}
 use Rattle.patch.specs.Touched.{Marks, beside_in}
 
@@ -57,6 +61,10 @@ rising_apart ids count rising i j l m same =
     either (ltb j i)
     (λ u. absurd (omega (arith, rising j i (ltb-true j i u) l)))
     (λ u. omega (arith, ltb-false i j t, ltb-false j i u)))
+
+-- the ids of a table's tasks are listed as they rise
+pub ids_listed : (t : Tasks) → Directory (tasks (records t.table.image.now)) t.columns.ids t.table.tasks
+ids_listed t = ids_directory (records t.table.image.now) t.table.tasks t.columns (shape t.table) t.read
 
 -- a place that is not the count is below it
 pub place_inside : (ids : List ℕ) (count x place : ℕ) → place ≡ place_among ids count x → (place ≡ count → ⊥) → place < count

@@ -6,11 +6,9 @@ ghost use Rattle.table.specs.Numbers.{Directory};
 ghost use Rattle.table.specs.Precedence.{beside_map};
 ghost use Rattle.preempt.specs.Tasks.{barred_map};
 
+use rules::Sort;
 use table::accepted::Table;
 use table::pairs::mark_pairs;
-
-// The byte 1 of a one-way pair.
-const ONE_WAY: u32 = 0;
 
 // Adds the one-way pairs of an accepted table, whose tasks have these ids, to rows of which tasks come before or after which: cell j
 // of row i is then set where the task at place i may not be preempted by the one at place j.
@@ -19,5 +17,5 @@ pub fn mark_one_way(rows: &mut [u64; 64], table: &Table, ids: &[u32])
     requires beside { rows.old ≡ beside_map (records table.now.image.now) }
     ensures { rows.new ≡ barred_map (records table.now.image.now) }
 {
-    mark_pairs(rows, table.image, ids, table.tasks, ONE_WAY);
+    mark_pairs(rows, table.image, ids, table.tasks, u32::from(Sort::OneWay));
 }

@@ -4,16 +4,15 @@ ghost use Rattle.rules.specs.Preempt.{distance as Preempt·distance, timing, rea
 ghost use Rattle.rules.specs.Reasons.{told};
 
 use rules::{Reason, Task};
-use sets::numbers::excess;
 
 // The distance from the more urgent task's offset to the less urgent one's, by equation (7): the paper's psi, in the two cases of its proof of Lemma 2.
 pub fn distance(period: u32, lower: u32, upper: u32) -> u32
     ensures { result ≡ Preempt·distance period lower upper }
 {
     // The paper's T, O_i and O_j; T + O_i may need 33 bits.
-    let t = period as u64;
-    let o_i = lower as u64;
-    let o_j = upper as u64;
+    let t = u64::from(period);
+    let o_i = u64::from(lower);
+    let o_j = u64::from(upper);
     // Case 1: O_i < O_j
     if o_i < o_j && o_j < t {
         let psi = t + o_i - o_j;
@@ -35,8 +34,8 @@ fn shifted_remainder(period: u32, lower: u32, upper: u32) -> u32
     if period == 0 {
         return lower;
     }
-    let shifted = lower as u64 + excess(period, upper) as u64;
-    (shifted % period as u64) as u32
+    let shifted = u64::from(lower) + u64::from(period.saturating_sub(upper));
+    (shifted % u64::from(period)) as u32
 }
 
 // The rule by which the activations of two tasks allow a preemption, the first that holds: different transactions, a jitter
@@ -51,7 +50,7 @@ fn timing_of(period: u32, low: Task, high: Task) -> Reason
     if apart < high.jitter {
         return Reason::Jitter;
     }
-    if excess(period, apart) < excess(low.response, low.offset) {
+    if period.saturating_sub(apart) < low.response.saturating_sub(low.offset) {
         return Reason::Response;
     }
     Reason::Timing
@@ -74,14 +73,10 @@ pub fn reason_of(period: u32, barred: bool, low: Task, high: Task) -> Reason
 fn sets_cell(reason: Reason) -> bool
     ensures { result ≡ (told reason).set }
 {
-    match reason {
-        Reason::Transaction => true,
-        Reason::Jitter => true,
-        Reason::Response => true,
-        Reason::Priority => false,
-        Reason::Pair => false,
-        Reason::Timing => false,
-    }
+    matches!(
+        reason,
+        Reason::Transaction | Reason::Jitter | Reason::Response
+    )
 }
 
 // Whether the first task may be preempted by the second: the reason is one that sets a cell.

@@ -4,6 +4,7 @@ ghost use Rattle.rules.specs.Blocks.{records};
 ghost use Rattle.rules.specs.Preempt.{row_from, map_from, map_of};
 ghost use Rattle.rules.specs.Refusals.{accepted, table_verdict};
 ghost use Rattle.rules.specs.Calls.{over, map_verdict, map_after};
+ghost use Rattle.rules.specs.Told.{judged};
 ghost use Rattle.table.specs.Precedence.{before_map};
 ghost use Rattle.preempt.specs.Tasks.{decided_on, decided_by};
 
@@ -11,10 +12,12 @@ use crate::barred::mark_one_way;
 use crate::columns::Columns;
 use crate::decide::may_preempt;
 use crate::tasks::read_tasks;
+use rules::Refusal;
 use sets::bits::is_set;
 use sets::places::{by_place, places_where};
 use sets::rows::both_ways;
 use table::accepted::Table;
+use table::judge_table;
 
 // Whether the task at place i may be preempted by the one at place j; bars holds the places that are barred from it.
 pub fn may_preempt_at(columns: &Columns, bars: u64, i: usize, j: usize) -> bool
@@ -60,4 +63,18 @@ fn table_map(table: &Table, before: [u64; 64]) -> [u64; 64]
     both_ways(&mut rows, table.tasks);
     mark_one_way(&mut rows, table, &tasks.columns.ids);
     map_of(&tasks.columns, &rows, table.tasks)
+}
+
+// Fills a lent map from a table image: the map of the table in the first 64 rows. A refusal writes nothing.
+pub fn fill_map(image: &[u8], rows: &mut [u64]) -> Result<(), Refusal>
+    ensures told { judged result ≡ map_verdict image.now rows.old }
+    ensures rows_after { rows.new ≡ map_after image.now rows.old }
+{
+    let mut before = [0u64; 64];
+    let table = judge_table(image, &mut before)?;
+    if rows.len() < 64 {
+        return Err(Refusal::Short);
+    }
+    write_rows(table_map(&table, before), rows);
+    Ok(())
 }

@@ -13,7 +13,12 @@ use Rattle.rules.specs.declared.Verdict.{Verdict}
 use Rattle.rules.specs.Blocks.{records}
 use Rattle.rules.specs.Records.{transactions}
 use Rattle.rules.specs.Preempt.{cell}
-use Rattle.rules.specs.Told.{bounds_told}
+use Rattle.rules.specs.declared.BoundsFound.{BoundsFound}
+use Rattle.rules.specs.declared.Refusal.{Refusal}
+use Rattle.rules.specs.Told.{bounds_told, verdict_of}
+use Rattle.rules.proofs.Judged.{is_refused}
+use Rattle.std.specs.Prelude.{Result, IsErrAnd}
+use Rattle.std.proofs.lemmas.Result.{err_from_is_err_and}
 use Rattle.rules.proofs.Table.Shape.{Shape}
 use Rattle.rules.specs.declared.Bounds.{Bounds}
 use Rattle.rules.specs.Chains.{weight, Chain, Path, Largest, related}
@@ -113,9 +118,13 @@ module _ (t : Tasks) (lent rows : List ℕ) (same : cell rows ≡ related (recor
       whole = shape t.table
 
 module _ (image lent ids : List ℕ) where
-  -- the three answers of a bound call: the table's refusal, a short map or room, or what was found
-  pub by_table : accepted (table_verdict image) ≡ false → BoundCall image lent ids (bound_refusal (table_verdict image)) ids
-  by_table no' = refused_by image lent ids (table_verdict image) (table_refuses image lent ids no') no'
+  -- a refusal of the table is the answer, and so is a short map or room
+  pub by_table : (call : Result BoundsFound Refusal) (e : Refusal) → IsErrAnd call (λ y. y ≡ e) → verdict_of e ≡ table_verdict image
+      → BoundCall image lent ids (bounds_told call) ids
+  by_table call e is told =
+      let no' : accepted (table_verdict image) ≡ false = rw (← told) (is_refused e) in
+      let p = err_from_is_err_and call is in
+      rw (p.1, p.2, told) (refused_by image lent ids (table_verdict image) (table_refuses image lent ids no') no')
 
   pub by_short : accepted (table_verdict image) ≡ true → (ltb (length lent) 64 || ltb (length ids) 64) ≡ true
       → BoundCall image lent ids (bound_refusal (refusal 11 0)) ids

@@ -2,7 +2,7 @@
 ghost use Rattle.std.specs.Prelude.{◌≡◌, map as List·map, ℕ, ◌≤◌, ◌<◌, length, get_or, Ok};
 ghost use Rattle.rules.specs.Blocks.{records};
 ghost use Rattle.rules.specs.Told.{bounds_told};
-ghost use Rattle.rules.specs.Calls.{over};
+ghost use Rattle.rules.specs.Calls.{over, BoundCall};
 ghost use Rattle.stack.specs.Setting.{Ready, RowsRise};
 ghost use Rattle.stack.specs.Figures.{PreparedOver, BoundsOver};
 
@@ -15,8 +15,9 @@ use crate::related::related_rows;
 use crate::rising::Rising;
 use crate::search::heaviest_chain;
 use preempt::columns::Columns;
-use preempt::tasks::Tasks;
-use rules::BoundsFound;
+use preempt::tasks::{Tasks, read_tasks};
+use rules::{BoundsFound, Refusal};
+use table::table_verdict;
 
 // What the bounds are worked out over: the rows of the relation, and the places by falling priority.
 #[derive(Drop)]
@@ -90,4 +91,18 @@ pub fn bounds_over(tasks: &Tasks, prepared: &Prepared, ids: &mut [u16]) -> Bound
         levels: level_bound(&rising),
         length: best.chain.length as u32,
     }
+}
+
+// The chain bound with its chain, and the path, transactions and levels bounds, of a table image over a lent map of any
+// contents. The chain's ids go to the lent room; a refusal writes nothing.
+pub fn find_bounds(image: &[u8], map: &[u64], ids: &mut [u16]) -> Result<BoundsFound, Refusal>
+    ensures { BoundCall image.now map.now ids.old (bounds_told result) ids.new }
+{
+    let table = table_verdict(image)?;
+    if map.len() < 64 || ids.len() < 64 {
+        return Err(Refusal::Short);
+    }
+    let tasks = read_tasks(&table);
+    let prepared = prepare(&tasks.columns, tasks.table.tasks, map);
+    Ok(bounds_over(&tasks, &prepared, ids))
 }

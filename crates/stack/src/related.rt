@@ -3,19 +3,14 @@ ghost use Rattle.std.specs.Prelude.{◌≡◌, ◌≤◌, length};
 ghost use Rattle.rules.specs.Preempt.{row_from};
 ghost use Rattle.stack.specs.Related.{is_higher, RelatedRows};
 
-use sets::bits::with_bit_if;
-use sets::places::shared;
+use sets::places::{places_where, shared};
 
 // The places below count whose priority is above this threshold.
 fn higher(priorities: &[u32; 64], count: usize, threshold: u32) -> u64
     requires few { count ≤ 64 }
     ensures { result ≡ row_from count (is_higher priorities.now threshold) }
 {
-    let mut set: u64 = 0;
-    for place in 0..count {
-        set = with_bit_if(set, place, threshold < priorities[place]);
-    }
-    set
+    places_where(count, |place| threshold < priorities[place])
 }
 
 // The map with only those set cells that count: both places hold tasks, and the first has a threshold below the second's

@@ -25,15 +25,15 @@ pub loop-i-init : goal.loop-i-init
 loop-i-init c = (omega arith, omega (arith, sum_to_zero (term c.args.block.now)), omega arith, omega arith)
 
 pub overflow_add-sums : goal.overflow_add-sums
-overflow_add-sums c = omega (arith, c.wide-sum.ensures.1)
+overflow_add-sums c = omega (arith, c.from-sum.ensures, (c.type_inv.block c.loop-i.i).fits)
 
 pub loop-i-preserved : goal.loop-i-preserved
 loop-i-preserved c =
     let block = c.args.block.now in
     let s = c.loop-i in
-    let byte = c.wide-sum.result in
-    let read : (s.i + 1) * get_or block s.i 0 ≡ (s.i + 1) * byte = ap (λ (b : ℕ). (s.i + 1) * b) (sym c.wide-sum.ensures.0) in
-    (omega arith, omega (arith, sum_to_step (term block) s.i, read, s.invariant.1, weighted s.i s.sum byte), omega (arith, c.wide-sum.ensures.1), omega (arith, c.wide-sum.ensures.1))
+    let byte = c.from-sum.result in
+    let read : (s.i + 1) * get_or block s.i 0 ≡ (s.i + 1) * byte = ap (λ (b : ℕ). (s.i + 1) * b) (sym c.from-sum.ensures) in
+    (omega arith, omega (arith, sum_to_step (term block) s.i, read, s.invariant.1, weighted s.i s.sum byte), omega (arith, c.from-sum.ensures, (c.type_inv.block c.loop-i.i).fits), omega (arith, c.from-sum.ensures, (c.type_inv.block c.loop-i.i).fits))
 
 pub overflow_sub-result : goal.overflow_sub-result
 overflow_sub-result c =
@@ -47,4 +47,4 @@ returns c =
     let block = c.args.block.now in
     let all = whole block s.i s.sum s.sums (omega arith) s.invariant.1 in
     let rest : 511 * s.sum - s.sums ≡ sum_to (term block) 510 = omega arith in
-    (ap (λ (n : ℕ). n % 65521) rest, omega arith)
+    record { right = ap (λ (n : ℕ). n % 65521) rest; in_two_bytes = omega arith }

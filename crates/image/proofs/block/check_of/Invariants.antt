@@ -1,5 +1,5 @@
 -- The loop keeps that the sums so far and the weighted bytes are together the last sum, once more than bytes are passed.
-use Prim.Native.Nat.{ℕ, ◌+◌, ◌*◌, ◌-◌, ◌≤◌}
+use Prim.Native.Nat.{ℕ, ◌+◌, ◌*◌, ◌≤◌}
 use mathlib.Core.Path.{◌≡◌}
 use mathlib.Core.List.{List}
 use lib.ListN.{get_or}
@@ -11,6 +11,3 @@ term block i = (i + 1) * get_or block i 0
 
 abbrev pub invariant-loop-i : goal.invariant-loop-i
 invariant-loop-i l = (l.i ≤ 510) × (l.sums + sum_to (term l.block) l.i ≡ (l.i + 1) * l.sum) × (l.sum ≤ 255 * l.i) × (l.sums ≤ 130050 * l.i)
-
-abbrev pub decreases-loop-i : goal.decreases-loop-i
-decreases-loop-i l = 510 - l.i

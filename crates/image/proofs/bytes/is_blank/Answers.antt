@@ -1,40 +1,21 @@
-use Prim.Native.Nat.{ℕ, ◌+◌, ◌≤◌}
-use mathlib.Core.Path.{◌≡◌, sym}
-use borrow.Author.Count.{below_more}
-use mathlib.Core.List.{List}
-use lib.ListN.{length, get_or, get_or-eq_default}
-use lib.Dec.{ltb}
-use borrow.Author.Tests.{ltb-true, ltb-false}
-use Rattle.rules.proofs.Bytes.{blank_true, blank_false}
-use Rattle.rules.proofs.Numbers.{either}
+-- The part that is gone through has those of the bytes which the slice has.
+use Prim.Native.Nat.{◌+◌, ◌-◌, min}
+use mathlib.Core.Path.{◌≡◌, ◌∙◌}
+use lib.ListN.{length, take, drop}
+use Rattle.std.proofs.Common.{rules, nat_eq}
+use Rattle.std.specs.List.{list_all}
+use Rattle.std.proofs.lemmas.Iterator.{YieldsList-from_slice}
+use Rattle.std.proofs.lemmas.Iterator.Search.{all_from_yields_List}
+use Rattle.image.proofs.Blank.{blank_part}
+use Rattle.image.proofs.Parts.{part_clipped}
 use native.Mathlib.Omega.{arith}
-use borrow.Author.Rules.{rules}
 use Rattle.image.proofs.bytes.is_blank.Goals as goal
-
-past : (s : List ℕ) (start k : ℕ) → length s ≤ start → get_or s (start + k) 0 ≡ 0
-past s start k h = get_or-eq_default s 0 (omega arith)
-
-pub returns-then-s-start : goal.returns-then-s-start
-returns-then-s-start c =
-    let a = c.args in
-    sym (blank_true a.s.now a.start a.count (λ k h. past a.s.now a.start k c.if-s-start.true))
-
-pub returns-then-s-start-ne0 : goal.returns-then-s-start-ne0
-returns-then-s-start-ne0 c =
-    let a = c.args in
-    let k = c.loop-k.k in
-    let least = c.least-end.ensures in
-    sym (blank_false a.s.now a.start a.count k (omega arith) c.if-s-start-ne0.true)
-
-pub loop-k-preserved : goal.loop-k-preserved
-loop-k-preserved c = (search rules, below_more _ _ c.loop-k.invariant.1 c.if-s-start-ne0.false)
 
 pub returns : goal.returns
 returns c =
-    let a = c.args in
-    let zeros = c.loop-k.invariant.1 in
-    let k = c.loop-k.k in
-    sym
-    (blank_true a.s.now a.start a.count
-    (λ j h.
-    either (ltb j k) (λ t. zeros j (ltb-true j k t)) (λ t. get_or-eq_default a.s.now 0 (omega (arith, ltb-false j k t)))))
+    let s = c.args.s.now in
+    let found : c.all.result ≡ list_all (λ b. nat_eq b 0) (take (c.min-to.result - c.min-from.result) (drop c.min-from.result s)) =
+    all_from_yields_List (λ b. nat_eq b 0) _ _ c.all.result c.all.ensures.ran (YieldsList-from_slice _ c.iter.ensures.rest) (λ x b q called. search rules) in
+    let from : c.min-from.result ≡ min c.args.start (length s) = omega (arith, c.min-from.ensures) in
+    let to : c.min-to.result ≡ min (c.args.start + c.args.count) (length s) = omega (arith, c.min-to.ensures, c.saturating_add.ensures) in
+    found ∙ rw (from, to, part_clipped s c.args.start c.args.count) (blank_part s c.args.start c.args.count)

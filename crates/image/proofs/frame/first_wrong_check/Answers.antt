@@ -1,34 +1,7 @@
-use mathlib.Core.Path.{◌≡◌, sym, ap, ◌∙◌}
-use Rattle.image.proofs.Parts.{part_size}
-use Rattle.rules.specs.Blocks.{block_count, check_wrong}
-use Prim.Native.Nat.{◌*◌}
-use Rattle.rules.specs.Numbers.{lowest}
-use Rattle.rules.proofs.Numbers.{lowest_more, lowest_here, lowest_zero}
-use native.Mathlib.Omega.{arith}
-use Rattle.image.proofs.frame.first_wrong_check.Invariants.{fault}
+-- The search over the blocks is that of the definition.
+use Rattle.std.proofs.Common.{rules}
+use Rattle.image.proofs.First.{first_in_range}
 use Rattle.image.proofs.frame.first_wrong_check.Goals as goal
 
-pub loop-b-init : goal.loop-b-init
-loop-b-init c = (omega arith, lowest_zero (fault c.args.image.now))
-
-pub returns-then-is_check_wrong : goal.returns-then-is_check_wrong
-returns-then-is_check_wrong c =
-    let image = c.args.image.now in
-    let b = c.loop-b.b in
-    let test = fault image in
-    let here : test b ≡ c.is_check_wrong.result = sym (c.is_check_wrong.ensures ∙ ap (check_wrong) (part_size image (512 * b) 512)) in
-    sym (lowest_here test b (block_count image) c.loop-b.invariant.1 (here ∙ c.if-is_check_wrong.true) c.loop-b-test.true)
-
-pub loop-b-preserved : goal.loop-b-preserved
-loop-b-preserved c =
-    let image = c.args.image.now in
-    let b = c.loop-b.b in
-    let test = fault image in
-    let here : test b ≡ c.is_check_wrong.result = sym (c.is_check_wrong.ensures ∙ ap (check_wrong) (part_size image (512 * b) 512)) in
-    (omega arith, lowest_more test b c.loop-b.invariant.1 (here ∙ c.if-is_check_wrong.false))
-
 pub returns : goal.returns
-returns c =
-    let image = c.args.image.now in
-    let end : c.loop-b.b ≡ block_count image = omega arith in
-    sym c.loop-b.invariant.1 ∙ ap (lowest (fault image)) end
+returns c = first_in_range _ _ _ _ _ c.find.ensures.ran (λ b answer q called. search rules)

@@ -1,17 +1,11 @@
--- The loop keeps that the reader of the image stands at the number of records passed, and the other at the number met among them.
-use Rattle.std.proofs.Common.{◌≡◌, ◌-◌, ◌≤◌, ℕ, List}
+-- The loop keeps that what is met so far, and of the records that are left, is what is met of all.
+use Rattle.std.proofs.Common.{◌≡◌}
 use Rattle.rules.specs.Blocks.{record_count, records}
-use Rattle.image.specs.InTurn.{met_among}
+use Rattle.image.specs.InTurn.{records_left, met_among}
+use Rattle.image.proofs.InTurn.{met_from}
 use Rattle.image.proofs.reader.met_among.Given as goal
 
-pub record Reading (image other : List ℕ) (read : List ℕ) (next : ℕ) (found : List ℕ) (met : ℕ) : Type 0 where
-  pub image_kept : read ≡ image
-  pub other_kept : found ≡ other
-  pub inside : next ≤ record_count image
-  pub met_so_far : met ≡ met_among (records image) (records other) next
-
-abbrev pub invariant-loop-here : goal.invariant-loop-here
-invariant-loop-here l = Reading l.image l.other l.here.image.now l.here.next l.sought.image.now l.sought.next
-
-abbrev pub decreases-loop-here : goal.decreases-loop-here
-decreases-loop-here l = record_count l.image - l.here.next
+abbrev pub invariant-loop-fields : goal.invariant-loop-fields
+invariant-loop-fields l =
+    met_from (records l.other) (records_left l.fields-iterator.image.now l.fields-iterator.next l.fields-iterator.count) l.met
+    ≡ met_among (records l.image) (records l.other) (record_count l.image)

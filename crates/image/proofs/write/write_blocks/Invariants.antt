@@ -1,6 +1,5 @@
 -- Before each turn the room starts with the first b blocks of the image, and the rest is as it was.
--- no block is written yet
-use Prim.Native.Nat.{◌-◌, ◌≤◌}
+use Prim.Native.Nat.{◌≤◌}
 use mathlib.Core.Path.{◌≡◌}
 use lib.ListN.{length}
 use Rattle.rules.specs.Numbers.{up_to}
@@ -11,6 +10,3 @@ use Rattle.image.proofs.write.write_blocks.Given as goal
 abbrev pub invariant-loop-b : goal.invariant-loop-b
 invariant-loop-b l =
     (l.b ≤ l.total) × (l.room ≡ over (joined (up_to (block_of l.form (cut l.records)) l.b)) l.initial.room) × (length l.room ≡ length l.initial.room)
-
-abbrev pub decreases-loop-b : goal.decreases-loop-b
-decreases-loop-b l = l.total - l.b

@@ -5,9 +5,6 @@ use Rattle.image.proofs.write.write_body.Goals as goal
 
 pub returns : goal.returns
 returns c =
-    let headed = c.write_header in
-    let copied = c.copy_bytes in
-    let filled = c.fill_zero in
-    body_written c.args.form c.args.total c.args.b c.args.records.now c.requires.0
-    c.args.block.now headed.new.block copied.new.to filled.new.part
-    headed.ensures (omega arith) copied.ensures (omega arith) filled.ensures
+    body_written c.args.header.now c.args.records.now (omega arith) c.requires.few_records
+    c.args.block.now c.copy_from_slice.new.self c.copy_from_slice-2.new.self c.fill.new.self
+    c.requires.one_block c.copy_from_slice.ensures.after c.copy_from_slice-2.ensures.after (c.fill.ensures.after (λ y same. same))

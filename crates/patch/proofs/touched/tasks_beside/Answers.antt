@@ -1,31 +1,32 @@
 -- An id that is found leads to its row.
--- a place that is not the count is below it
-use Prim.Native.Nat.{◌<◌}
 use mathlib.Core.Path.{sym, ◌∙◌}
 use native.Mathlib.Omega.{arith}
-use Rattle.patch.proofs.Touching.{place_inside, marks_beside, marks_beside-none}
+use Rattle.table.proofs.Tables.{few_records}
+use Rattle.patch.proofs.Touching.{ids_listed, place_inside, marks_beside, marks_beside-none}
 use Rattle.patch.proofs.touched.tasks_beside.Goals as goal
+
+pub place_of-place-requires : goal.place_of-place-requires
+place_of-place-requires c = let ids = ids_listed c.args.related.now.tasks in (ids.room, ids.rising)
 
 pub returns-then-place-count : goal.returns-then-place-count
 returns-then-place-count c =
-    let a = c.args in
-    marks_beside-none a.ids.now a.count a.beside.now a.id (sym c.place_of-place.ensures ∙ c.if-place-count.true)
+    let r = c.args.related.now in
+    marks_beside-none r.tasks.columns.ids r.tasks.table.tasks r.beside c.args.id (sym c.place_of-place.ensures ∙ c.if-place-count.true)
 
-pub offset_bounds-beside-place : goal.offset_bounds-beside-place
-offset_bounds-beside-place c =
-    let place_below : c.place_of-place.result < c.args.count = let a = c.args in
-    place_inside a.ids.now a.count a.id c.place_of-place.result c.place_of-place.ensures c.if-place-count.false in
-    omega (arith, place_below)
+pub offset_bounds-related-place : goal.offset_bounds-related-place
+offset_bounds-related-place c =
+    let t = c.args.related.now.tasks in
+    let below = place_inside t.columns.ids t.table.tasks c.args.id c.place_of-place.result c.place_of-place.ensures c.if-place-count.false in
+    omega (arith, (few_records t.table).1)
 
-pub bounds-beside-place : goal.bounds-beside-place
-bounds-beside-place c =
-    let place_below : c.place_of-place.result < c.args.count = let a = c.args in
-    place_inside a.ids.now a.count a.id c.place_of-place.result c.place_of-place.ensures c.if-place-count.false in
-    omega (arith, place_below)
+pub bounds-related-place : goal.bounds-related-place
+bounds-related-place c =
+    let t = c.args.related.now.tasks in
+    let below = place_inside t.columns.ids t.table.tasks c.args.id c.place_of-place.result c.place_of-place.ensures c.if-place-count.false in
+    omega (arith, (few_records t.table).1)
 
 pub returns : goal.returns
 returns c =
-    let place_below : c.place_of-place.result < c.args.count = let a = c.args in
-    place_inside a.ids.now a.count a.id c.place_of-place.result c.place_of-place.ensures c.if-place-count.false in
-    let a = c.args in
-    marks_beside a.ids.now a.count a.beside.now a.id c.place_of-place.result c.place_of-place.ensures place_below
+    let r = c.args.related.now in
+    let below = place_inside r.tasks.columns.ids r.tasks.table.tasks c.args.id c.place_of-place.result c.place_of-place.ensures c.if-place-count.false in
+    marks_beside r.tasks.columns.ids r.tasks.table.tasks r.beside c.args.id c.place_of-place.result c.place_of-place.ensures below
