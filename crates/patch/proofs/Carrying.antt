@@ -1,9 +1,10 @@
 -- The new map from what is read is the map after the patch: touched tasks, old places and decisions are the table's.
-use Prim.Native.Nat.{ℕ, ◌<◌}
+use Prim.Native.Nat.{ℕ, ◌^◌, ◌≤◌, ◌<◌}
 use mathlib.Core.List.{List, []}
-use mathlib.Core.Bool.{Bool, cond}
+use mathlib.Core.Bool.{Bool, false, cond}
 use mathlib.Core.Path.{◌≡◌, ap, sym, ◌∙◌}
 use native.Mathlib.Omega.{arith}
+use lib.Pow.{pow_mono}
 use lib.ListN.{length, get_or}
 use Rattle.rules.specs.Numbers.{count_to}
 use Rattle.rules.specs.Blocks.{records}
@@ -11,6 +12,7 @@ use Rattle.rules.specs.Records.{number_of, second_of, tasks, task_at, place_of}
 use Rattle.rules.specs.Preempt.{map_from, bit_at}
 use Rattle.rules.specs.Patches.{outcome, alongside, touched, touched_count, old_place, carried, patched_map}
 use Rattle.rules.proofs.Numbers.{sum_to_ext, some_ext}
+use Rattle.rules.proofs.Bits.{bit_lacks}
 use Rattle.rules.proofs.Maps.{map_ext}
 use Rattle.rules.proofs.Table.Shape.{Shape}
 use Rattle.rules.proofs.Table.Listed.{Listed}
@@ -25,6 +27,10 @@ use Rattle.patch.specs.Touched.{Marks, along_in, touched_in, touched_at}
 use Rattle.patch.specs.declared.carried.Standing.{Standing}
 use Rattle.patch.specs.Carried.{cell_new}
 use Rattle.patch.proofs.Along.{beside_found}
+
+-- a row of 64 bits has no cell beyond them
+pub no_such_cell : (row place : ℕ) → row < 2 ^ 64 → 64 ≤ place → bit_at row place ≡ false
+no_such_cell row place small beyond = bit_lacks row place (omega (arith, pow_mono {j = place} beyond))
 
 -- base and patch, what stands for their outcome, and which tasks are touched
 module _ (base patch : List (List ℕ)) (s : Standing) (made : records s.related.tasks.table.image.now ≡ outcome base patch) (before : Listed base) (marked : Marks s.related.tasks.table.tasks (touched_at patch s.related.tasks.columns.ids s.related.tasks.columns.transactions s.related.tasks.table.tasks s.related.beside) s.touched) (placed : s.old ≡ column s.related.tasks.table.tasks (λ i. place_of (tasks base) (get_or s.related.tasks.columns.ids i 0))) where

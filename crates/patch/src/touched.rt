@@ -17,14 +17,14 @@ use table::accepted::Patch;
 use table::place::place_of;
 
 // The task with an id, or none.
+#[tactic(auto, using(crate::proofs::Touching::finding))]
 fn task_with(tasks: &Tasks, id: u32) -> u64
     ensures { Marks tasks.now.table.tasks (λ i. eqb id (get_or tasks.now.columns.ids i 0)) result }
 {
-    let place = place_of(&tasks.columns.ids, tasks.table.tasks, id);
-    if place == tasks.table.tasks {
-        return 0;
+    match place_of(&tasks.columns.ids, tasks.table.tasks, id) {
+        Some(place) => power(place),
+        None => 0,
     }
-    power(place)
 }
 
 // The tasks that a patch record concerns.
@@ -44,15 +44,15 @@ fn concerned(tasks: &Tasks, fields: &[u8]) -> u64
 }
 
 // The tasks that come before or after the one with an id, where a task has it.
+#[tactic(auto, using(crate::proofs::Touching::finding))]
 fn tasks_beside(related: &Related, id: u32) -> u64
     ensures { Marks related.now.tasks.table.tasks (beside_in related.now.tasks.columns.ids related.now.tasks.table.tasks related.now.beside id) result }
 {
-    let count = related.tasks.table.tasks;
-    let place = place_of(&related.tasks.columns.ids, count, id);
-    if place == count {
-        return 0;
+    let tasks = &related.tasks;
+    match place_of(&tasks.columns.ids, tasks.table.tasks, id) {
+        Some(place) => related.beside[place],
+        None => 0,
     }
-    related.beside[place]
 }
 
 // The tasks along the paths of a patch record: those before or after one of its two, where it is a precedence pair.
