@@ -31,14 +31,13 @@ fn pair_lines(out: &impl Print, table: &Table, before: &[u64; 64], ids: &[u16]) 
     }
     let mut low = ids[0];
     let mut place = place_listed(table, low);
-    for k in 1..ids.len() {
-        let high = ids[k];
-        let next = place_listed(table, high);
+    for high in &ids[1..] {
+        let next = place_listed(table, *high);
         println!(out;
             "{low} {high} {}",
             word(reason_at(table, before, place, next))
         )?;
-        low = high;
+        low = *high;
         place = next;
     }
     Ok(())

@@ -2,5 +2,5 @@
 use Rattle.std.proofs.Common.{◌<◌}
 use Rattle.reasons.proofs.print.pair_lines.Given as goal
 
-abbrev pub invariant-loop-k : goal.invariant-loop-k
-invariant-loop-k g l = l.place < l.table.tasks
+abbrev pub invariant-loop-high : goal.invariant-loop-high
+invariant-loop-high g l = l.place < l.table.tasks
