@@ -12,6 +12,7 @@ use table::accepted::Table;
 
 // Why the task at place i may be preempted by the one at place j, or why not, in an accepted table of whose tasks before says which
 // come before which.
+#[tactic(auto, unfolding(rules::specs::Preempt::reason_at))]
 pub fn reason_at(table: &Table, before: &[u64; 64], i: usize, j: usize) -> Reason
     requires before_known { before.now ≡ before_map (records table.now.image.now) }
     requires in_bounds { (i < table.now.tasks) × (j < table.now.tasks) }
