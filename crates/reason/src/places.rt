@@ -21,6 +21,6 @@ pub fn reason_at(table: &Table, before: &[u64; 64], i: usize, j: usize) -> Reaso
     let period = period_at(table, i);
     let low = task_at(table, i, period);
     let high = task_at(table, j, period_at(table, j));
-    let barred = is_barred(table, before, i, j, low.id, high.id);
+    let barred = is_barred(table, before, i, j);
     reason_of(period, barred, low, high)
 }
