@@ -4,8 +4,6 @@ use mathlib.Core.Bool.{true, false}
 use mathlib.Core.Path.{◌≡◌, ap, ◌∙◌}
 use Rattle.rules.specs.Calls.{over}
 use Rattle.rules.specs.Refusals.{accepted, table_verdict}
-use Rattle.rules.specs.Blocks.{records}
-use Rattle.rules.specs.Preempt.{map_of}
 use Rattle.rules.proofs.Judged.{is_refused}
 use Rattle.table.proofs.Judging.{judged_before, handed_on}
 use Rattle.preempt.proofs.Calls.{map_refused, map_short, map_filled}

@@ -6,7 +6,7 @@ use mathlib.Core.Path.{◌≡◌, sym, ◌∙◌}
 use native.Mathlib.Omega.{arith}
 use Rattle.rules.specs.Blocks.{records}
 use Rattle.rules.specs.Records.{task_count, task_at}
-use Rattle.rules.specs.Preempt.{paired, beside, barred, cell}
+use Rattle.rules.specs.Preempt.{beside, barred, cell}
 use Rattle.table.specs.declared.accepted.Table.{Table}
 use Rattle.table.specs.Precedence.{before_map}
 use Rattle.table.proofs.Closed.{before_cell}
