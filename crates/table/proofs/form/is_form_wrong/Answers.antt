@@ -1,7 +1,5 @@
 -- Each test in turn is that of the definition.
-use native.Mathlib.Omega.{arith}
-use borrow.Author.Tests.{le-leb, lt-leb}
-use Rattle.rules.specs.Records.{kind_of, form_wrong}
+use Rattle.rules.specs.Records.{form_wrong}
 use Rattle.table.proofs.KindsRead.{kind_known, kind_unknown}
 use Rattle.table.proofs.form.is_form_wrong.Goals as goal
 

@@ -1,6 +1,5 @@
 -- Each of the two ids that the record names is found at its place.
 use mathlib.Core.Path.{◌≡◌, ap, sym, ◌∙◌}
-use native.Mathlib.Omega.{arith}
 use borrow.Author.Tests.{eq-eqb, ne_eqb}
 use Rattle.rules.specs.Records.{number_of, second_of}
 use Rattle.table.specs.Numbers.{place_among}

@@ -4,7 +4,7 @@ use mathlib.Core.Path.{◌≡◌}
 use Prim.Native.Nat.{ℕ}
 use mathlib.Core.Bool.{Bool}
 use native.Mathlib.Omega.{arith}
-use lib.ListN.{length, get_or}
+use lib.ListN.{get_or}
 use Rattle.rules.specs.Blocks.{records, record_at, record_count}
 use Rattle.rules.specs.Records.{reference_wrong}
 use Rattle.rules.specs.Refusals.{fine, refusal, reference_refusal}

@@ -10,7 +10,7 @@ use Rattle.rules.specs.declared.Form.{Form}
 use Rattle.rules.specs.declared.Verdict.{Verdict}
 use Rattle.rules.specs.Blocks.{records, record_at, record_count}
 use Rattle.rules.specs.Records.{form_wrong, range_wrong}
-use Rattle.rules.specs.Refusals.{fine, refusal, refuse_at, or_else, numbered, order_wrong, records_verdict}
+use Rattle.rules.specs.Refusals.{refusal, refuse_at, or_else, numbered, order_wrong, records_verdict}
 use Rattle.rules.proofs.Numbers.{length-up_to}
 use Rattle.rules.proofs.Refusals.{or_else-refusal, numbered-some}
 use Rattle.image.specs.First.{first}
