@@ -18,20 +18,24 @@ use Rattle.rules.proofs.Tests.{not_either}
 use Rattle.rules.specs.Numbers.{blank, lowest}
 use Rattle.rules.proofs.Numbers.{either, some_more}
 
+-- twice the other is the same
 not_twice : (a : Bool) → not (not a) ≡ a
 not_twice true = refl
 not_twice false = refl
 
+-- one more byte
 blank_more : (s : List ℕ) (start n : ℕ) → blank s start (n + 1) ≡ (blank s start n && eqb (get_or s (start + n) 0) 0)
 unfolding blank
 blank_more s start n =
     let last : Bool = eqb (get_or s (start + n) 0) 0 in
     rw (some_more (λ k. not (eqb (get_or s (start + k) 0) 0)) n, not_either _ (not last), not_twice last)
 
+-- no byte
 blank_none : (s : List ℕ) (start : ℕ) → true ≡ blank s start 0
 unfolding blank lowest
 blank_none s start = refl
 
+-- the bytes that the list has, as `all` goes through them
 pub blank_part : (s : List ℕ) (start n : ℕ) → list_all (λ b. nat_eq b 0) (take n (drop start s)) ≡ blank s start n
 blank_part s start zero = blank_none s start
 blank_part s start (suc n) =
