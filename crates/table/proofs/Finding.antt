@@ -11,15 +11,14 @@ use Rattle.rules.specs.Numbers.{lowest}
 use Rattle.rules.specs.Blocks.{records, record_at, record_count}
 use Rattle.rules.proofs.Numbers.{lowest_ext, get_or-up_to}
 use Rattle.image.specs.First.{first}
-use Rattle.image.proofs.First.{Searched, first_found}
 
 pub first_ext : (test other : ℕ → Bool) (n : ℕ) → ((k : ℕ) → k < n → test k ≡ other k) → first test n ≡ first other n
 first_ext test other n same = rw (lowest_ext test other n same)
 
-pub first_record : (image : List ℕ) (test : List ℕ → Bool) (count : ℕ) (found : Option ℕ) → count ≡ record_count image → Searched (λ k. test (record_at image k)) count found
+pub first_record : (image : List ℕ) (test : List ℕ → Bool) (count : ℕ) (found : Option ℕ) → count ≡ record_count image → found ≡ first (λ k. test (record_at image k)) count
     → found ≡ first (λ k. test (get_or (records image) k [])) (record_count image)
 first_record image test count found counted searched =
-    first_found (λ k. test (record_at image k)) count found searched
+    searched
     ∙ rw counted
     (first_ext (λ k. test (record_at image k)) (λ k. test (get_or (records image) k [])) (record_count image)
     (λ k h. ap test (sym (get_or-up_to (record_at image) (record_count image) k [] h))))

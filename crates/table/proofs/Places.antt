@@ -26,11 +26,11 @@ use Rattle.image.specs.First.{first}
 use Rattle.table.specs.Numbers.{Rising, place_among, place_from, NumbersRead, Directory}
 
 -- the first number that passes a test, or the end where none does, is the lowest
-pub first_placed : (test : ℕ → Bool) (n : ℕ) → unwrap_or (first test n) n ≡ lowest test n
-first_placed test n =
+pub first_placed : (test : ℕ → Bool) (n : ℕ) (found : Option ℕ) → found ≡ first test n → unwrap_or found n ≡ lowest test n
+first_placed test n found e =
     either (some test n)
-    (λ t. rw t)
-    (λ t. rw t (omega (arith, ltb-false (lowest test n) n t, lowest_le test n)))
+    (λ t. rw (e, t))
+    (λ t. rw (e, t) (omega (arith, ltb-false (lowest test n) n t, lowest_le test n)))
 
 -- one test, the other way round
 pub not_below : (a b : ℕ) → leb a b ≡ not (ltb b a)
