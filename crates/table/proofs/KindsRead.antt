@@ -30,3 +30,8 @@ kind_known kind read number = rw (← read, ← number) (each kind)
 pub kind_unknown : {n byte : ℕ} → byte ≡ n → (byte ≡ 0) ⊎ (3 < byte) → between 1 n 3 ≡ false
 kind_unknown read (inl e) = rw (← read, e)
 kind_unknown {n} {byte} read (inr e) = rw (← read, lt-leb byte 3 e) (and-false (leb 1 byte))
+
+pub kind_bounds : (kind : Kind) → (1 ≤ kind_number kind) × (kind_number kind ≤ 3)
+kind_bounds Transaction = (omega arith, omega arith)
+kind_bounds Task = (omega arith, omega arith)
+kind_bounds Pair = (omega arith, omega arith)
