@@ -1,14 +1,11 @@
 // The verdict on a whole image, as a table and as a patch.
 ghost use Rattle.std.specs.Prelude.{◌≡◌, ℕ, List, true, ◌≤◌, replicate, IfOk};
 ghost use Rattle.rules.specs.Blocks.{records, record_count};
-ghost use Rattle.rules.specs.Records.{tasks as Records·tasks, most_of, too_many};
+ghost use Rattle.rules.specs.Records.{most_of, too_many};
 ghost use Rattle.rules.specs.Kinds.{kind_number};
 ghost use Rattle.rules.specs.Refusals.{accepted, fine, frame_verdict, records_verdict, count_refusal, reference_refusal, circle_refusal, link_refusal, table_verdict, patch_verdict};
 ghost use Rattle.rules.specs.Told.{judged};
-ghost use Rattle.rules.specs.declared.Form.TheVariants.{Table as Form·Table};
 ghost use Rattle.image.specs.Held.{HoldsRecords};
-ghost use Rattle.table.specs.Numbers.{Directory};
-ghost use Rattle.table.specs.Precedence.{SoundRecords};
 ghost use Rattle.table.specs.Tally.{Tallied};
 ghost use Rattle.table.specs.Judged.{earlier_verdict, Judges};
 
@@ -80,21 +77,15 @@ fn check_records(form: Form, image: &[u8]) -> Result<(), Refusal>
     check_counts(form, image)
 }
 
-// 14: a task that comes before itself. The tasks have these ids, and the rows are made those of which comes before which.
-fn check_circles(
-    image: &[u8],
-    ids: &[u32],
-    tasks: usize,
-    before: &mut [u64; 64],
-) -> Result<(), Refusal>
-    requires sound_records { SoundRecords image.now }
-    requires tasks_listed { Directory (Records·tasks (records image.now)) ids.now tasks }
+// 14: a task that comes before itself. The rows are made those of which task comes before which.
+fn check_circles(listing: &Listing, before: &mut [u64; 64]) -> Result<(), Refusal>
+    requires referring { accepted (reference_refusal (records listing.now.image.now)) ≡ true }
     requires blank { before.old ≡ replicate 64 0 }
-    ensures { Judges (circle_refusal (records image.now)) fine (records image.now) (judged result) before.old before.new }
+    ensures { Judges (circle_refusal (records listing.now.image.now)) fine (records listing.now.image.now) (judged result) before.old before.new }
 {
-    mark_before(before, image, ids, tasks);
-    match first_circle(before, tasks) {
-        Some(place) => Err(Refusal::Circle(ids[place])),
+    mark_before(before, listing.image, &listing.ids, listing.tasks);
+    match first_circle(before, listing.tasks) {
+        Some(place) => Err(Refusal::Circle(listing.ids[place])),
         None => Ok(()),
     }
 }
@@ -107,7 +98,7 @@ fn check_links(listing: &Listing, before: &mut [u64; 64]) -> Result<(), Refusal>
     if let Some(place) = first_wrong_reference(listing) {
         return Err(Refusal::Unknown(place as u32));
     }
-    check_circles(listing.image, &listing.ids, listing.tasks, before)
+    check_circles(listing, before)
 }
 
 // An image that is a table, or its refusal, 1 to 8 or 14; and in rows that were all 0, which of its tasks come before which: whoever

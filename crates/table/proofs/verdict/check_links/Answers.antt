@@ -30,9 +30,8 @@ returns-in-Some c =
 
 pub check_circles-requires : goal.check_circles-requires
 check_circles-requires c =
-    let t = c.args.listing.now in
-    let none : reference_refusal (records t.image.now) ≡ fine = refuse_at_no_record t.image.now 8 _ c.in_default.ensures in
-    record { sound_records = record { held = t.held; sound = t.sound; referring = rw none }; tasks_listed = t.tasks_listed; blank = c.requires.blank }
+    let none : reference_refusal (records c.args.listing.now.image.now) ≡ fine = refuse_at_no_record c.args.listing.now.image.now 8 _ c.in_default.ensures in
+    record { referring = rw none; blank = c.requires.blank }
 
 pub returns : goal.returns
 returns c =
