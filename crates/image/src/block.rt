@@ -10,7 +10,8 @@ use rules::Form;
 // the last sum less all of them has it i + 1 times: two additions for each byte, and no product.
 pub fn check_of(block: &[u8]) -> u32
     requires { 510 ≤ length block.now }
-    ensures { (result ≡ check_of block.now) × (result < 65521) }
+    ensures right { result ≡ check_of block.now }
+    ensures in_two_bytes { result < 65521 }
 {
     let mut sum: u32 = 0;
     let mut sums: u32 = 0;

@@ -10,13 +10,17 @@ use lib.Dec.{ltb, eqb}
 use lib.ListN.{get_or}
 use Rattle.rules.specs.Numbers.{some}
 use Rattle.rules.specs.Preempt.{row_from}
-use Rattle.rules.specs.Records.{kind_of, number_of, second_of}
+use Rattle.rules.specs.Records.{kind_of, number_of, second_of, tasks}
 use Rattle.rules.specs.Patches.{concerns}
-use Rattle.rules.proofs.Numbers.{either, never, lowest_le, lowest_passes, lowest_below, lowest_zero, some_false, some_more}
+use Rattle.rules.proofs.Numbers.{either, never, lowest_passes, lowest_below, lowest_zero, some_false, some_more}
 use Rattle.rules.proofs.Bits.{bit_none, bit_of_power, bit-or}
 use Rattle.rules.proofs.Maps.{row_at}
 use Rattle.rules.proofs.Tests.{same_tests}
-use Rattle.table.specs.Numbers.{Rising, place_among}
+use Rattle.rules.specs.Blocks.{records}
+use Rattle.table.specs.Numbers.{Rising, Directory, place_among}
+use Rattle.table.proofs.Tables.{shape, few_records}
+use Rattle.preempt.specs.declared.tasks.Tasks.{Tasks}
+use Rattle.preempt.proofs.Reading.{ids_directory}
 use Rattle.sets.specs.Bits.{has_number}
 use Rattle.patch.specs.Touched.{Marks, beside_in}
 
@@ -58,9 +62,9 @@ rising_apart ids count rising i j l m same =
     (λ u. absurd (omega (arith, rising j i (ltb-true j i u) l)))
     (λ u. omega (arith, ltb-false i j t, ltb-false j i u)))
 
--- a place that is not the count is below it
-pub place_inside : (ids : List ℕ) (count x place : ℕ) → place ≡ place_among ids count x → (place ≡ count → ⊥) → place < count
-place_inside ids count x place found other = omega (arith, lowest_le (λ k. eqb (get_or ids k 0) x) count)
+-- the ids of a table's tasks are listed as they rise
+pub ids_listed : (t : Tasks) → Directory (tasks (records t.table.image.now)) t.columns.ids t.table.tasks
+ids_listed t = ids_directory (records t.table.image.now) t.table.tasks t.columns (shape t.table) t.read
 
 -- of numbers that rise one that is found stands at its place alone
 pub marks_place : (ids : List ℕ) (count x place : ℕ) → Rising ids count → place ≡ place_among ids count x → place < count → Marks count (λ i. eqb x (get_or ids i 0)) (2 ^ place)
@@ -105,3 +109,6 @@ module _ (p : List ℕ) (id transaction : ℕ) where
   -- a record of another kind concerns none
   pub concerns-none : (kind_of p ≡ 1 → ⊥) → (kind_of p ≡ 2 → ⊥) → (kind_of p ≡ 3 → ⊥) → concerns p id transaction ≡ false
   concerns-none first second third = rw (ne_eqb (kind_of p) 1 first, ne_eqb (kind_of p) 2 second, ne_eqb (kind_of p) 3 third)
+
+-- what looking up a task by its id asks for
+pub ruleset finding = (ids_listed, few_records)

@@ -3,26 +3,42 @@ ghost use Rattle.std.specs.Prelude.{◌≡◌, ◌++◌, ◌+◌, ◌≤◌, len
 ghost use Rattle.rules.specs.Numbers.{lowest};
 ghost use Rattle.rules.specs.Blocks.{records, record_count};
 ghost use Rattle.image.specs.Held.{HoldsRecords};
-ghost use Rattle.patch.specs.Parts.{is_put_in};
+ghost use Rattle.patch.specs.Parts.{is_put_in, way_number};
 
 use image::bytes::byte_at;
 use image::records::{record_at, record_count};
-use image::write::copy_bytes;
 
-// The number of the first record that a patch puts in, or the number of its records.
+// What a patch does with a record of it: it takes it out of the base, or it puts it in.
+#[derive(Clone, Copy, PartialEq, Eq, Debug)]
+pub enum Way {
+    TakenOut,
+    PutIn,
+}
+
+// Byte 31 of a record that goes this way. In a table it is that of a record that a patch takes out.
+impl From<Way> for u8 {
+    ghost from_gives = { λ way byte. byte ≡ way_number way };
+
+    fn from(way: Way) -> u8 {
+        match way {
+            Way::TakenOut => 0,
+            Way::PutIn => 1,
+        }
+    }
+}
+
+// How many records a patch takes out: it puts in those from this number on.
 pub fn first_put_in(patch: &[u8]) -> usize
     requires { HoldsRecords patch.now }
     ensures { result ≡ lowest (is_put_in (records patch.now)) (record_count patch.now) }
 {
     let count = record_count(patch);
-    let mut k: usize = 0;
-    while k < count {
-        if byte_at(record_at(patch, k), 31) != 0 {
-            return k;
+    for place in 0..count {
+        if byte_at(record_at(patch, place), 31) != 0 {
+            return place;
         }
-        k += 1;
     }
-    k
+    count
 }
 
 // Writes a record behind the bytes written.
@@ -31,7 +47,7 @@ pub fn write_record(fields: &[u8], written: usize, flat: &mut [u8])
     ensures { flat.new ≡ take written flat.old ++ (fields.now ++ drop (written + 32) flat.old) }
 {
     let end = written + rules::RECORD_BYTES;
-    copy_bytes(fields, &mut flat[written..end]);
+    flat[written..end].copy_from_slice(fields);
 }
 
 // Writes a record with this byte 31 behind the bytes written.

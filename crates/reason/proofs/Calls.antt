@@ -1,68 +1,63 @@
--- What a reason call answers, by its three ways.
+-- What a reason call answers, by its ways: a refused table, an id that is not listed, and the reason.
 use Prim.Native.Nat.{ℕ, ◌<◌}
 use mathlib.Core.List.{List}
-use mathlib.Core.Bool.{true, false}
-use mathlib.Core.Path.{◌≡◌}
-use borrow.Author.Tests.{eq-eqb, ne_eqb, eqb-true}
-use lib.Dec.{eqb}
+use mathlib.Core.Bool.{Bool, true, false, not, or-true}
+use mathlib.Core.Path.{◌≡◌, refl}
+use borrow.Author.Tests.{lt-ltb}
+use Rattle.std.specs.Prelude.{Result, IsErrAnd}
+use Rattle.std.proofs.lemmas.Result.{err_from_is_err_and}
+use Rattle.rules.specs.declared.Reason.{Reason}
+use Rattle.rules.specs.declared.Reasoned.{Reasoned}
+use Rattle.rules.specs.declared.Refusal.{Refusal}
 use Rattle.rules.specs.Blocks.{records}
-use Rattle.rules.specs.Records.{tasks, task_count, place_of}
+use Rattle.rules.specs.Records.{tasks, task_count, place_of, listed}
 use Rattle.rules.specs.Reasons.{told}
 use Rattle.rules.specs.Preempt.{reason_at}
-use Rattle.rules.specs.Refusals.{accepted, refusal, table_verdict}
+use Rattle.rules.specs.Refusals.{accepted, refusal, unlisted_refusal, table_verdict}
+use Rattle.rules.specs.Told.{verdict_of, reason_told}
 use Rattle.rules.specs.Calls.{reason_verdict, reason_refusal, reason_answer}
-use Rattle.rules.proofs.Numbers.{either}
-use Rattle.table.proofs.Places.{place_unlisted, place_within}
+use Rattle.rules.proofs.Numbers.{never}
+use Rattle.rules.proofs.Judged.{is_refused}
+
+-- a refusal that is handed on by `?` is told as it was
+pub refusal_handed_on : {answer : Reasoned} (r : Result Reason Refusal) (e : Refusal) → IsErrAnd r (λ y. y ≡ e) → reason_refusal (verdict_of e) ≡ answer → reason_told r ≡ answer
+refusal_handed_on r e is same =
+    let p = err_from_is_err_and r is in
+    rw (p.1, p.2) same
 
 -- a refused table: its refusal
-pub reason_refused : (image : List ℕ) (low high : ℕ) → accepted (table_verdict image) ≡ false → reason_answer image low high ≡ reason_refusal (table_verdict image)
+pub table_refused : (image : List ℕ) (low high : ℕ) (e : Refusal) → verdict_of e ≡ table_verdict image → reason_refusal (verdict_of e) ≡ reason_answer image low high
 unfolding reason_verdict
-reason_refused image low high h = rw (h, h)
+table_refused image low high e same =
+    let refused : accepted (table_verdict image) ≡ false = rw (← same) (is_refused e) in
+    rw (refused, refused, same)
 
--- an accepted table, where two ids were looked for among its count tasks
-pub record Found (image : List ℕ) (low high i j count : ℕ) : Type 0 where
-  pub right : accepted (table_verdict image) ≡ true
-  pub low_place : i ≡ place_of (tasks (records image)) low
-  pub high_place : j ≡ place_of (tasks (records image)) high
-  pub counted : count ≡ task_count (records image)
+-- an id that is told as not listed is not
+unlisted : (e : Refusal) (here : Bool) → verdict_of e ≡ unlisted_refusal (not here) → (here ≡ false) × (verdict_of e ≡ refusal 15 0)
+unlisted e true same = never (accepted (verdict_of e)) (rw same) (is_refused e)
+unlisted e false same = (refl, same)
 
-module _ (image : List ℕ) (low high i j count : ℕ) (f : Found image low high i j count) where
-  -- one of them is not listed: 15
-  pub low_unlisted : i ≡ count → reason_answer image low high ≡ reason_refusal (refusal 15 0)
+module _ (image : List ℕ) (low high : ℕ) (right : accepted (table_verdict image) ≡ true) where
+  -- one of the two is not listed: 15
+  pub low_unlisted : (e : Refusal) → verdict_of e ≡ unlisted_refusal (not (listed (tasks (records image)) low))
+      → reason_refusal (verdict_of e) ≡ reason_answer image low high
   unfolding reason_verdict
-  low_unlisted e = rw (f.right, ← place_unlisted (tasks (records image)) low i count f.low_place f.counted, eq-eqb i count e)
+  low_unlisted e same =
+      let (out, fifteen) = unlisted e (listed (tasks (records image)) low) same in
+      rw (right, out, fifteen)
 
-  pub high_unlisted : j ≡ count → reason_answer image low high ≡ reason_refusal (refusal 15 0)
+  pub high_unlisted : (e : Refusal) → verdict_of e ≡ unlisted_refusal (not (listed (tasks (records image)) high))
+      → reason_refusal (verdict_of e) ≡ reason_answer image low high
   unfolding reason_verdict
-  high_unlisted e =
-      either (eqb i count)
-      (λ t. low_unlisted (eqb-true i count t))
-      (λ t.
-      rw (
-        f.right,
-        ← place_unlisted (tasks (records image)) low i count f.low_place f.counted,
-        ← place_unlisted (tasks (records image)) high j count f.high_place f.counted,
-        t,
-        eq-eqb j count e,
-      ))
+  high_unlisted e same =
+      let (out, fifteen) = unlisted e (listed (tasks (records image)) high) same in
+      rw (right, out, or-true (not (listed (tasks (records image)) low)), fifteen)
 
-  -- both are listed: their places hold tasks, and the answer is the reason's number
-  module _ (listed : i ≡ count → ⊥) (listed' : j ≡ count → ⊥) where
-    pub both_within : (i < task_count (records image)) × (j < task_count (records image))
-    both_within = (
-      place_within (tasks (records image)) low i count f.low_place f.counted listed,
-      place_within (tasks (records image)) high j count f.high_place f.counted listed',
-    )
-
-    pub reason-told : reason_answer image low high ≡ record { number = 0; place = 0; reason = (told (reason_at (records image) i j)).number }
-    unfolding reason_verdict
-    reason-told =
-        rw (
-          f.right,
-          ← place_unlisted (tasks (records image)) low i count f.low_place f.counted,
-          ← place_unlisted (tasks (records image)) high j count f.high_place f.counted,
-          ne_eqb i count listed,
-          ne_eqb j count listed',
-          f.low_place,
-          f.high_place,
-        )
+  -- both are: the number of the reason
+  pub reason_found : (i j : ℕ) → (i ≡ place_of (tasks (records image)) low) × (i < task_count (records image)) → (j ≡ place_of (tasks (records image)) high) × (j < task_count (records image))
+      → reason_answer image low high ≡ record { number = 0; place = 0; reason = (told (reason_at (records image) i j)).number }
+  unfolding reason_verdict
+  reason_found i j (low_at, below) (high_at, below') =
+      let low_listed : listed (tasks (records image)) low ≡ true = rw low_at at (lt-ltb i (task_count (records image)) below) in
+      let high_listed : listed (tasks (records image)) high ≡ true = rw high_at at (lt-ltb j (task_count (records image)) below') in
+      rw (right, low_listed, high_listed, low_at, high_at)

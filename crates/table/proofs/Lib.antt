@@ -4,3 +4,5 @@ pub mod Pairing
 pub mod Closed
 pub mod Judging
 pub mod Tables
+pub mod KindsRead
+pub mod Finding

@@ -2,13 +2,19 @@
 use Prim.Native.Nat.{ℕ, ◌+◌, ◌≤◌, ◌<◌}
 use mathlib.Core.List.{List, []}
 use mathlib.Core.Bool.{Bool, true, not}
-use mathlib.Core.Path.{◌≡◌, ap, ◌∙◌}
+use mathlib.Core.Path.{◌≡◌, ap, sym, ◌∙◌}
 use native.Mathlib.Omega.{arith}
-use borrow.Author.Tests.{ltb-true, ltb-false, eq-eqb, ne_eqb, le-leb, lt-leb}
-use lib.ListN.{length, get_or}
+use borrow.Author.Tests.{ltb-true, ltb-false, eq-eqb, ne_eqb, le-leb, lt-leb, lt-ltb, le-ltb}
+use lib.ListN.{length, get_or, take}
+use Rattle.std.specs.Prelude.{Option, Some, None, Result, Ok, Err, MatchResult, unwrap_or, IfSome, is_some}
+use Rattle.std.specs.Result.{result_ok}
+use Rattle.std.specs.Ordering.{nat_cmp}
+use Rattle.std.specs.List.Sorted.{IsBinarySearchResult}
+use Rattle.std.proofs.lemmas.List.{get_or-take, length-take-le}
+use Rattle.std.proofs.lemmas.List.Sorted.{searched}
 use lib.Dec.{leb, ltb, eqb}
 use Rattle.rules.specs.declared.Form.TheVariants.{Table}
-use Rattle.rules.specs.Numbers.{Bytes, lowest}
+use Rattle.rules.specs.Numbers.{Bytes, lowest, some}
 use Rattle.rules.specs.Blocks.{records, record_at}
 use Rattle.rules.specs.Records.{number_of, place_of, listed, transactions, tasks, task_count}
 use Rattle.rules.specs.Refusals.{accepted, records_verdict}
@@ -16,7 +22,15 @@ use Rattle.rules.proofs.Numbers.{either, lowest_le, lowest_ext, lowest-none, low
 use Rattle.rules.proofs.Table.Standing.{transaction_record, task_record_lem}
 use Rattle.rules.proofs.Table.Order.{Rises}
 use Rattle.rules.proofs.Table.Shape.{Shape, shape_of}
+use Rattle.image.specs.First.{first}
 use Rattle.table.specs.Numbers.{Rising, place_among, place_from, NumbersRead, Directory}
+
+-- the first number that passes a test, or the end where none does, is the lowest
+pub first_placed : (test : ℕ → Bool) (n : ℕ) → unwrap_or (first test n) n ≡ lowest test n
+first_placed test n =
+    either (some test n)
+    (λ t. rw t)
+    (λ t. rw t (omega (arith, ltb-false (lowest test n) n t, lowest_le test n)))
 
 -- one test, the other way round
 pub not_below : (a b : ℕ) → leb a b ≡ not (ltb b a)
@@ -51,6 +65,35 @@ place_none numbers count x place rising below above =
     let same : place ≡ k = omega (arith, ltb-false place k u) in
     absurd (omega (arith, rw same at start))))))
 
+-- so a search by halving finds the place
+pub searched_place : (numbers : List ℕ) (count x : ℕ) (r : Result ℕ ℕ) → count ≤ length numbers → Rising numbers count
+    → IsBinarySearchResult (λ y. nat_cmp y x) (take count numbers) r → unwrap_or (result_ok r) count ≡ place_among numbers count x
+searched_place numbers count x r room rising found = by r (searched (take count numbers) x r found not_falling)
+  where
+    long : length (take count numbers) ≡ count
+    long = length-take-le count numbers room
+
+    not_falling : (i j : ℕ) → i ≤ j → j < length (take count numbers) → get_or (take count numbers) i 0 ≤ get_or (take count numbers) j 0
+    not_falling i j h l =
+        either (ltb i j)
+        (λ t. omega (arith, get_or-take count numbers i 0 (omega (arith, long)), get_or-take count numbers j 0 (omega (arith, long)), rising i j (ltb-true i j t) (omega (arith, long))))
+        (λ t.
+        let same : i ≡ j = omega (arith, ltb-false i j t) in
+        omega (arith, ap (λ (n : ℕ). get_or (take count numbers) n 0) same))
+
+    by : (r : Result ℕ ℕ)
+        → MatchResult r (λ i. (i < length (take count numbers)) × (get_or (take count numbers) i 0 ≡ x))
+        (λ i. (i ≤ length (take count numbers)) × ((k : ℕ) → k < i → get_or (take count numbers) k 0 < x) × ((k : ℕ) → i ≤ k → k < length (take count numbers) → x < get_or (take count numbers) k 0))
+        → unwrap_or (result_ok r) count ≡ place_among numbers count x
+    by (Ok i) (inside, here) =
+        let below : i < count = omega (arith, long) in
+        let found : get_or numbers i 0 ≡ x = omega (arith, get_or-take count numbers i 0 below) in
+        sym (place_found numbers count x i (λ k h. omega (arith, rising k i h below)) below found)
+    by (Err i) (inside, below, above) =
+        sym (place_none numbers count x i rising
+        (λ k h. omega (arith, below k h, long, get_or-take count numbers k 0 (omega (arith, long))))
+        (λ h. omega (arith, above i (omega arith) (omega (arith, long)), get_or-take count numbers i 0 h)))
+
 -- a place among the numbers is the place among the records
 pub place_in : (l : List (List ℕ)) (numbers : List ℕ) (count : ℕ) → Directory l numbers count → (x : ℕ) → place_among numbers count x ≡ place_of l x
 place_in l numbers count d x =
@@ -64,6 +107,12 @@ place_read l image first count counted same x =
     lowest_ext (λ k. eqb (number_of (record_at image (first + k))) x) (λ k. eqb (number_of (get_or l k [])) x) count (λ k h. ap (λ (r : List ℕ). eqb (number_of r) x) (same k h))
     ∙ ap (lowest (λ k. eqb (number_of (get_or l k [])) x)) counted
 
+-- what is found of a number among listed records says whether it is listed
+pub found_listed : (l : List (List ℕ)) (x count : ℕ) (found : Option ℕ) → unwrap_or found count ≡ place_of l x → count ≡ length l → IfSome found (λ place. place < count)
+    → is_some found ≡ listed l x
+found_listed l x count (Some place) here counted inside = sym (lt-ltb (place_of l x) (length l) (omega (arith, here, counted, inside)))
+found_listed l x count None here counted inside = sym (le-ltb (place_of l x) (length l) (omega (arith, here, counted)))
+
 -- a place at the count says that the number is not listed
 pub place_unlisted : (l : List (List ℕ)) (x place count : ℕ) → place ≡ place_of l x → count ≡ length l → eqb place count ≡ not (listed l x)
 place_unlisted l x place count here counted =
@@ -76,10 +125,6 @@ place_unlisted l x place count here counted =
 pub place_within : (l : List (List ℕ)) (x place count : ℕ) → place ≡ place_of l x → count ≡ length l → (place ≡ count → ⊥) → place < length l
 place_within l x place count here counted other =
     omega (arith, here, counted, other, lowest_le (λ k. eqb (number_of (get_or l k [])) x) (length l))
-
-pub listed_is : (l : List (List ℕ)) (numbers : List ℕ) (count : ℕ) → Directory l numbers count → (x place : ℕ) → place ≡ place_among numbers count x
-    → eqb place count ≡ not (listed l x)
-listed_is l numbers count d x place e = place_unlisted l x place count (e ∙ place_in l numbers count d x) d.counted
 
 -- numbers read from records that are the listed ones in turn are their directory
 pub directory_of : (l : List (List ℕ)) (image : List ℕ) (first count : ℕ) (numbers : List ℕ) → NumbersRead image first count numbers → count ≡ length l → count ≤ 64

@@ -28,17 +28,13 @@ fn slot(fields: &[u8]) -> usize
 
 // How many records there are of each kind and way: of kind k and way w at k + 4 * w.
 pub fn tally(image: &[u8]) -> [u32; 8]
-    requires image_bound { record_count image.now ≤ 1000 }
-    requires holds_records { HoldsRecords image.now }
+    requires few { record_count image.now ≤ 1000 }
+    requires held { HoldsRecords image.now }
     ensures { Tallied (records image.now) result }
 {
-    let count = record_count(image);
     let mut counts = [0u32; 8];
-    let mut k: usize = 0;
-    while k < count {
-        let at = slot(record_at(image, k));
-        counts[at] += 1;
-        k += 1;
+    for k in 0..record_count(image) {
+        counts[slot(record_at(image, k))] += 1;
     }
     counts
 }
@@ -46,8 +42,8 @@ pub fn tally(image: &[u8]) -> [u32; 8]
 // The number of the first record of at least this kind, or how many records there are where none is. No kind is below 1 or above 3;
 // between them it is looked for by halving, as kinds do not fall.
 fn kind_start(image: &[u8], kind: u32) -> usize
-    requires image_value { accepted (records_verdict Table (records image.now)) ≡ true }
-    requires holds_records { HoldsRecords image.now }
+    requires sound { accepted (records_verdict Table (records image.now)) ≡ true }
+    requires held { HoldsRecords image.now }
     ensures { KindStart (records image.now) kind result }
 {
     if kind <= 1 {
@@ -72,9 +68,11 @@ fn kind_start(image: &[u8], kind: u32) -> usize
 
 // How many records of a kind an image has whose records are in order.
 pub fn count_kind(image: &[u8], kind: u32) -> usize
-    requires image_value { (accepted (records_verdict Table (records image.now)) ≡ true) × (kind ≤ 3) }
-    requires holds_records { HoldsRecords image.now }
-    ensures { (result ≡ length (of_kind kind (records image.now))) × (result ≤ record_count image.now) }
+    requires sound { accepted (records_verdict Table (records image.now)) ≡ true }
+    requires known { kind ≤ 3 }
+    requires held { HoldsRecords image.now }
+    ensures counted { result ≡ length (of_kind kind (records image.now)) }
+    ensures inside { result ≤ record_count image.now }
 {
     kind_start(image, kind + 1) - kind_start(image, kind)
 }

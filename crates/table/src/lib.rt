@@ -5,6 +5,7 @@
 pub mod accepted;
 pub mod count;
 mod form;
+mod listing;
 pub mod order;
 pub mod pairs;
 pub mod place;

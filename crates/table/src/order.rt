@@ -1,9 +1,9 @@
 // Refusal 5: not after the record before it, in the image's order.
 ghost use Rattle.std.specs.Prelude.{◌≡◌, ◌<◌};
-ghost use Rattle.rules.specs.Numbers.{lowest};
 ghost use Rattle.rules.specs.Blocks.{records, record_count};
 ghost use Rattle.rules.specs.Records.{key as Records·key, image_key};
 ghost use Rattle.rules.specs.Refusals.{order_wrong};
+ghost use Rattle.image.specs.First.{first};
 ghost use Rattle.image.specs.Held.{HoldsRecords};
 
 use image::bytes::{byte_at, two_bytes};
@@ -13,10 +13,10 @@ use image::records::{record_at, record_count};
 pub fn key(fields: &[u8]) -> u64
     ensures { (result ≡ Records·key fields.now) × (result < 1099511627776) }
 {
-    let kind = byte_at(fields, 0) as u64;
-    let front = (kind * 65536 + two_bytes(fields, 2) as u64) * 65536;
+    let kind = byte_at(fields, 0);
+    let front = (u64::from(kind) * 65536 + u64::from(two_bytes(fields, 2))) * 65536;
     if kind == 3 {
-        front + two_bytes(fields, 4) as u64
+        front + u64::from(two_bytes(fields, 4))
     } else {
         front
     }
@@ -26,27 +26,25 @@ pub fn key(fields: &[u8]) -> u64
 fn image_key(fields: &[u8]) -> u64
     ensures { result ≡ image_key fields.now }
 {
-    byte_at(fields, 31) as u64 * 1099511627776 + key(fields)
+    u64::from(byte_at(fields, 31)) * 1099511627776 + key(fields)
 }
 
-// The first record that is not after the one before it, or the number of records.
-pub fn first_wrong_order(image: &[u8]) -> usize
-    requires { HoldsRecords image.now }
-    ensures { result ≡ lowest (order_wrong (records image.now)) (record_count image.now) }
+// The first record that is not after the one before it.
+pub fn first_wrong_order(image: &[u8]) -> Option<usize>
+    requires held { HoldsRecords image.now }
+    ensures { result ≡ first (order_wrong (records image.now)) (record_count image.now) }
 {
     let count = record_count(image);
     if count == 0 {
-        return 0;
+        return None;
     }
     let mut before = image_key(record_at(image, 0));
-    let mut k: usize = 1;
-    while k < count {
+    for k in 1..count {
         let here = image_key(record_at(image, k));
         if here <= before {
-            return k;
+            return Some(k);
         }
         before = here;
-        k += 1;
     }
-    k
+    None
 }

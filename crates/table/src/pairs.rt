@@ -7,23 +7,30 @@ ghost use Rattle.sets.specs.Closing.{IsMap};
 ghost use Rattle.table.specs.Numbers.{Rising, place_among, Directory};
 ghost use Rattle.table.specs.Precedence.{SoundRecords, with_pairs};
 
-use crate::count::count_kind;
+use crate::listing::count_of;
 use crate::place::place_of;
 use image::bytes::{byte_at, two_bytes};
 use image::records::record_at;
+use rules::Kind;
 use sets::rows::set_cell;
 
 // Sets the cell of the two tasks that a pair record names, where it is of this sort.
 fn mark_pair(rows: &mut [u64], ids: &[u32], known: usize, sort: u32, fields: &[u8])
-    requires in_bounds { (64 ≤ length rows.old) × ((known ≤ length ids.now) × Rising ids.now known) }
-    requires fields_bound { (place_among ids.now known (number_of fields.now) < 64) × (place_among ids.now known (second_of fields.now) < 64) }
+    requires in_bounds { (64 ≤ length rows.old) × (known ≤ length ids.now) × (known ≤ 64) }
+    requires rising { Rising ids.now known }
+    requires first_listed { place_among ids.now known (number_of fields.now) < known }
+    requires second_listed { place_among ids.now known (second_of fields.now) < known }
     ensures { rows.new ≡ cond (eqb (sort_of fields.now) sort) (with_cell rows.old (place_among ids.now known (number_of fields.now)) (place_among ids.now known (second_of fields.now))) rows.old }
 {
     if byte_at(fields, 1) != sort {
         return;
     }
-    let first = place_of(ids, known, two_bytes(fields, 2));
-    let second = place_of(ids, known, two_bytes(fields, 4));
+    let Some(first) = place_of(ids, known, two_bytes(fields, 2)) else {
+        return;
+    };
+    let Some(second) = place_of(ids, known, two_bytes(fields, 4)) else {
+        return;
+    };
     set_cell(rows, first, second);
 }
 
@@ -31,15 +38,13 @@ fn mark_pair(rows: &mut [u64], ids: &[u32], known: usize, sort: u32, fields: &[u
 // place j second. The tasks have these ids.
 pub fn mark_pairs(rows: &mut [u64; 64], image: &[u8], ids: &[u32], known: usize, sort: u32)
     requires sound_records { SoundRecords image.now }
-    requires directory { Directory (tasks (records image.now)) ids.now known }
+    requires tasks_listed { Directory (tasks (records image.now)) ids.now known }
     requires map { IsMap known rows.old }
     ensures { rows.new ≡ with_pairs sort (records image.now) rows.old }
 {
-    let first = count_kind(image, 1) + known;
-    let count = count_kind(image, 3);
-    let mut k: usize = 0;
-    while k < count {
+    let first = count_of(image, Kind::Transaction) + known;
+    let count = count_of(image, Kind::Pair);
+    for k in 0..count {
         mark_pair(rows, ids, known, sort, record_at(image, first + k));
-        k += 1;
     }
 }

@@ -10,16 +10,15 @@ ghost use Rattle.table.specs.Numbers.{Directory};
 ghost use Rattle.table.specs.Precedence.{SoundRecords};
 ghost use Rattle.table.specs.Judged.{earlier_verdict, Judges};
 
-use crate::count::{count_kind, tally};
+use crate::accepted::{Patch, Table};
+use crate::count::tally;
 use crate::form::first_wrong_form;
+use crate::listing::{Listing, list_records};
 use crate::order::first_wrong_order;
-use crate::place::numbers_from;
 use crate::precedence::{first_circle, mark_before};
 use crate::range::first_wrong_range;
 use crate::reference::first_wrong_reference;
-use crate::accepted::{Patch, Table};
 use image::frame::frame_verdict;
-use image::records::record_count;
 use rules::{Fault, Form, Kind, Refusal};
 
 // Whether a tally has more records of a kind than may be taken out, or put in.
@@ -27,27 +26,7 @@ fn has_too_many(counts: [u32; 8], kind: usize, most: u32) -> bool
     requires { (kind ≤ 3) × (8 ≡ length counts) }
     ensures { result ≡ (ltb most (get_or counts kind 0) || ltb most (get_or counts (kind + 4) 0)) }
 {
-    if most < counts[kind] {
-        return true;
-    }
-    most < counts[kind + 4]
-}
-
-// 1 to 3: the blocks.
-fn check_frame(form: Form, image: &[u8]) -> Result<(), Refusal>
-    ensures { judged result ≡ frame_verdict form image.now }
-{
-    let verdict = frame_verdict(form, image);
-    if verdict.number == 0 {
-        return Ok(());
-    }
-    if verdict.number % 20 == 1 {
-        return Err(Refusal::Image(form, Fault::Length));
-    }
-    if verdict.number % 20 == 2 {
-        return Err(Refusal::Image(form, Fault::Check(verdict.place)));
-    }
-    Err(Refusal::Image(form, Fault::Header(verdict.place)))
+    most < counts[kind] || most < counts[kind + 4]
 }
 
 // 7: too many of a kind.
@@ -75,71 +54,64 @@ fn check_records(form: Form, image: &[u8]) -> Result<(), Refusal>
     requires held { HoldsRecords image.now }
     ensures { judged result ≡ records_verdict form (records image.now) }
 {
-    let count = record_count(image);
-    let misformed = first_wrong_form(form, image);
-    if misformed < count {
-        return Err(Refusal::Image(form, Fault::Unformed(misformed as u32)));
+    if let Some(place) = first_wrong_form(form, image) {
+        return Err(Refusal::Image(form, Fault::Unformed(place as u32)));
     }
-    let misplaced = first_wrong_order(image);
-    if misplaced < count {
-        return Err(Refusal::Image(form, Fault::Unordered(misplaced as u32)));
+    if let Some(place) = first_wrong_order(image) {
+        return Err(Refusal::Image(form, Fault::Unordered(place as u32)));
     }
-    let outside = first_wrong_range(image);
-    if outside < count {
-        return Err(Refusal::Image(form, Fault::OutOfRange(outside as u32)));
+    if let Some(place) = first_wrong_range(image) {
+        return Err(Refusal::Image(form, Fault::OutOfRange(place as u32)));
     }
     check_counts(form, image)
 }
 
 // 14: a task that comes before itself. The tasks have these ids, and the rows are made those of which comes before which.
-fn check_circles(image: &[u8], ids: &[u32], tasks: usize, before: &mut [u64; 64]) -> Result<(), Refusal>
+fn check_circles(
+    image: &[u8],
+    ids: &[u32],
+    tasks: usize,
+    before: &mut [u64; 64],
+) -> Result<(), Refusal>
     requires sound_records { SoundRecords image.now }
-    requires directory { Directory (Records·tasks (records image.now)) ids.now tasks }
-    requires before_value { before.old ≡ replicate 64 0 }
+    requires tasks_listed { Directory (Records·tasks (records image.now)) ids.now tasks }
+    requires blank { before.old ≡ replicate 64 0 }
     ensures { Judges (circle_refusal (records image.now)) fine (records image.now) (judged result) before.old before.new }
 {
     mark_before(before, image, ids, tasks);
-    let place = first_circle(before, tasks);
-    if place < tasks {
-        return Err(Refusal::Circle(ids[place]));
+    match first_circle(before, tasks) {
+        Some(place) => Err(Refusal::Circle(ids[place])),
+        None => Ok(()),
     }
-    Ok(())
 }
 
-// 8, then 14: what a table's records say of each other. Transactions and tasks are listed once for both.
-fn check_links(image: &[u8], before: &mut [u64; 64]) -> Result<(), Refusal>
-    requires few { record_count image.now ≤ 1000 }
-    requires image_value { accepted (records_verdict Form·Table (records image.now)) ≡ true }
-    requires held { HoldsRecords image.now }
-    requires before_value { before.old ≡ replicate 64 0 }
-    ensures { Judges (link_refusal (records image.now)) (reference_refusal (records image.now)) (records image.now) (judged result) before.old before.new }
+// 8, then 14: what a table's records say of each other.
+fn check_links(listing: &Listing, before: &mut [u64; 64]) -> Result<(), Refusal>
+    requires blank { before.old ≡ replicate 64 0 }
+    ensures { Judges (link_refusal (records listing.now.image.now)) (reference_refusal (records listing.now.image.now)) (records listing.now.image.now) (judged result) before.old before.new }
 {
-    let transactions = count_kind(image, 1);
-    let tasks = count_kind(image, 2);
-    let numbers = numbers_from(image, 0, transactions);
-    let ids = numbers_from(image, transactions, tasks);
-    let unlisted = first_wrong_reference(image, &numbers, transactions, &ids, tasks);
-    if unlisted < record_count(image) {
-        return Err(Refusal::Unknown(unlisted as u32));
+    if let Some(place) = first_wrong_reference(listing) {
+        return Err(Refusal::Unknown(place as u32));
     }
-    check_circles(image, &ids, tasks, before)
+    check_circles(listing.image, &listing.ids, listing.tasks, before)
 }
 
 // An image that is a table, or its refusal, 1 to 8 or 14; and in rows that were all 0, which of its tasks come before which: whoever
 // wants both has them worked out once.
 pub fn judge_table<'a>(image: &'a [u8], before: &mut [u64; 64]) -> Result<Table<'a>, Refusal>
-    requires { before.old ≡ replicate 64 0 }
+    requires blank { before.old ≡ replicate 64 0 }
     ensures judges { Judges (table_verdict image.now) (earlier_verdict image.now) (records image.now) (judged result) before.old before.new }
     ensures of_image { IfOk result (λ t. t.image.now ≡ image.now) }
 {
-    check_frame(Form::Table, image)?;
+    frame_verdict(Form::Table, image)?;
     check_records(Form::Table, image)?;
-    check_links(image, before)?;
+    let listing = list_records(image);
+    check_links(&listing, before)?;
     Ok(Table {
         image,
-        transactions: count_kind(image, 1),
-        tasks: count_kind(image, 2),
-        pairs: count_kind(image, 3),
+        transactions: listing.transactions,
+        tasks: listing.tasks,
+        pairs: listing.pairs,
     })
 }
 
@@ -157,7 +129,7 @@ pub fn patch_verdict(image: &[u8]) -> Result<Patch<'_>, Refusal>
     ensures told { judged result ≡ patch_verdict image.now }
     ensures of_image { IfOk result (λ p. p.image.now ≡ image.now) }
 {
-    check_frame(Form::Patch, image)?;
+    frame_verdict(Form::Patch, image)?;
     check_records(Form::Patch, image)?;
     Ok(Patch { image })
 }

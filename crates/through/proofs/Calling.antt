@@ -1,36 +1,47 @@
 -- The answers of the two calls: refused by the table, by an id that is not listed, by a short map or room, or worked out.
 use Prim.Native.Nat.{ℕ, ◌≤◌, ◌<◌}
 use mathlib.Core.List.{List, map}
-use mathlib.Core.Bool.{true, false, ◌||◌}
+use mathlib.Core.Bool.{true, false, ◌||◌, or-true}
+use mathlib.Core.Logic.{◌⊎◌, ⊎_elim}
 use mathlib.Core.Path.{◌≡◌, refl, sym, ap, ◌∙◌}
 use native.Mathlib.Omega.{arith}
-use borrow.Author.Tests.{le-ltb}
+use borrow.Author.Tests.{lt-ltb, le-ltb}
 use lib.Dec.{ltb}
 use lib.IntN.{ℤ, sub_ℕ}
 use lib.ListN.{length, get_or}
-use mir.Val.{Fits}
-use mir.Syntax.{w8}
+use Rattle.std.specs.Prelude.{Result}
+use Rattle.std.specs.Result.{IsErrAnd}
+use Rattle.std.proofs.lemmas.Result.{err_from_is_err_and}
+use Rattle.rules.specs.declared.Refusal.{Refusal}
 use Rattle.rules.specs.declared.Verdict.{Verdict}
-use Rattle.rules.specs.declared.Shown.{Shown}
+use Rattle.rules.specs.declared.ChainFound.{ChainFound}
 use Rattle.rules.specs.Numbers.{up_to}
 use Rattle.rules.specs.Blocks.{records}
-use Rattle.rules.specs.Records.{tasks, task_count, place_of, listed}
+use Rattle.rules.specs.Records.{tasks, place_of, listed}
 use Rattle.rules.specs.Preempt.{cell}
-use Rattle.rules.specs.Chains.{weight, Through, Largest, Heaviest, related, size_at, id_at}
-use Rattle.rules.specs.Refusals.{accepted, refusal, table_verdict}
-use Rattle.rules.specs.Calls.{over, room_left_verdict, RoomLeftCall, through_verdict, through_refusal, through_found, ThroughCall}
+use Rattle.rules.specs.Chains.{weight, Through, related}
+use Rattle.rules.specs.Refusals.{accepted, refusal, fine, table_verdict}
+use Rattle.rules.specs.Calls.{over, room_left_verdict, RoomLeftCall, through_verdict, through_refusal, ThroughCall}
+use Rattle.rules.specs.Told.{verdict_of, judged, chain_told}
+use Rattle.rules.proofs.Judged.{is_refused}
 use Rattle.rules.proofs.Numbers.{never}
+use Rattle.rules.proofs.Table.Shape.{Shape}
 use Rattle.rules.proofs.FourBounds.Accepted.{accepted_sizes}
-use Rattle.preempt.specs.Tasks.{TasksRead, priority_column, size_column, threshold_column}
-use Rattle.preempt.proofs.Accepted.{shape}
+use Rattle.table.specs.declared.accepted.Table.{Table}
+use Rattle.table.proofs.Judging.{handed_on}
+use Rattle.table.proofs.Tables.{shape}
+use Rattle.preempt.specs.declared.tasks.Tasks.{Tasks}
 use Rattle.preempt.proofs.Reading.{size_is}
 use Rattle.stack.specs.declared.search.Best.{Best}
-use Rattle.stack.specs.Setting.{Arrays, RowsRise}
-use Rattle.stack.specs.Related.{RelatedRows}
 use Rattle.stack.specs.Search.{best_of, HeaviestFound}
-use Rattle.stack.proofs.Figures.{chain_within, rows_same, sizes_same, over_relation, heaviest_found}
-use Rattle.stack.proofs.Readying.{rows_rising, rows_arrays}
+use Rattle.stack.proofs.Calling.{listed_long}
+use Rattle.stack.proofs.Figures.{chain_within, sizes_same, ids_same, over_relation, heaviest_found}
 use Rattle.through.specs.Weights.{WeightsThrough}
+
+-- one of two rooms is short
+short : (a b : ℕ) → (a < 64) ⊎ ((64 ≤ a) × (b < 64)) → (ltb a 64 || ltb b 64) ≡ true
+short a b which =
+    ⊎_elim (λ l. rw (lt-ltb a 64 l)) (λ l. rw (lt-ltb b 64 l.1) (or-true (ltb a 64))) which
 
 module _ (image lent : List ℕ) (reserve : ℕ) (room : List ℤ) where
   -- a room call that is refused
@@ -42,30 +53,11 @@ module _ (image lent : List ℕ) (reserve : ℕ) (room : List ℤ) where
         worked = λ h. never (accepted v) (ap accepted (sym e) ∙ h) no';
       }
 
-  pub room_by_table : accepted (table_verdict image) ≡ false → RoomLeftCall image lent reserve room (table_verdict image) room
+  pub room_by_table : {T : Type 0} (r : Result T Refusal) (e : Refusal) → IsErrAnd r (λ y. y ≡ e) → verdict_of e ≡ table_verdict image → RoomLeftCall image lent reserve room (judged r) room
   unfolding room_left_verdict
-  room_by_table no' = room_refused (table_verdict image) (rw no') no'
-
-  pub room_by_short : accepted (table_verdict image) ≡ true → (ltb (length lent) 64 || ltb (length room) 64) ≡ true
-      → RoomLeftCall image lent reserve room (refusal 11 0) room
-  unfolding room_left_verdict
-  room_by_short yes' short = room_refused (refusal 11 0) (rw (yes', short)) refl
-
-  -- and one that is worked out
-  pub room_answered : accepted (table_verdict image) ≡ true → 64 ≤ length lent → 64 ≤ length room → (weights : ℕ → ℕ)
-      → ((i : ℕ) → i < task_count (records image) → Largest (Through (task_count (records image)) (related (records image) lent) i) (weight (size_at (records image))) (weights i))
-      → (later : List ℤ) → later ≡ over (up_to (λ i. sub_ℕ reserve (weights i)) (task_count (records image))) room
-      → RoomLeftCall image lent reserve room (refusal 0 0) later
-  unfolding room_left_verdict
-  room_answered yes' map_long room_long weights right later written =
-      record {
-        answered = sym verdict;
-        refused = λ h. never (accepted (room_left_verdict image lent room)) (ap accepted verdict) h;
-        worked = λ h. record { heaviest = weights; right = right; written = written };
-      }
-    where
-      verdict : room_left_verdict image lent room ≡ refusal 0 0
-      verdict = rw (yes', le-ltb (length lent) 64 map_long, le-ltb (length room) 64 room_long)
+  room_by_table r e is told =
+      let no' : accepted (table_verdict image) ≡ false = rw (← told) (is_refused e) in
+      rw (handed_on r e is told) (room_refused (table_verdict image) (rw no') no')
 
 module _ (image lent : List ℕ) (id : ℕ) (ids : List ℕ) where
   -- a chain call for one task that is refused
@@ -76,65 +68,94 @@ module _ (image lent : List ℕ) (id : ℕ) (ids : List ℕ) where
         worked = λ h. never (accepted v) (ap accepted (sym e) ∙ h) no';
       }
 
-  pub through_by_table : accepted (table_verdict image) ≡ false → ThroughCall image lent id ids (through_refusal (table_verdict image)) ids
+  pub through_by_table : (r : Result ChainFound Refusal) (e : Refusal) → IsErrAnd r (λ y. y ≡ e) → verdict_of e ≡ table_verdict image → ThroughCall image lent id ids (chain_told r) ids
   unfolding through_verdict
-  through_by_table no' = through_refused (table_verdict image) (rw no') no'
+  through_by_table r e is told =
+      let no' : accepted (table_verdict image) ≡ false = rw (← told) (is_refused e) in
+      let (handed, refused, same) = err_from_is_err_and r is in
+      rw (refused, same, told) (through_refused (table_verdict image) (rw no') no')
 
-  pub through_by_id : accepted (table_verdict image) ≡ true → listed (tasks (records image)) id ≡ false
-      → ThroughCall image lent id ids (through_refusal (refusal 15 0)) ids
-  unfolding through_verdict
-  through_by_id yes' unlisted = through_refused (refusal 15 0) (rw (yes', unlisted)) refl
+-- of an accepted table
+module _ (t : Table) (lent : List ℕ) where
+  pub room_by_short : (reserve : ℕ) (room : List ℤ) → (length lent < 64) ⊎ ((64 ≤ length lent) × (length room < 64)) → RoomLeftCall t.image.now lent reserve room (refusal 11 0) room
+  unfolding room_left_verdict
+  room_by_short reserve room which =
+      room_refused t.image.now lent reserve room (refusal 11 0) (rw (t.accepted, short (length lent) (length room) which)) refl
 
-  pub through_by_short : accepted (table_verdict image) ≡ true → listed (tasks (records image)) id ≡ true → (ltb (length lent) 64 || ltb (length ids) 64) ≡ true
-      → ThroughCall image lent id ids (through_refusal (refusal 11 0)) ids
+  pub through_by_id : (id : ℕ) (ids : List ℕ) → t.tasks ≡ place_of (tasks (records t.image.now)) id → ThroughCall t.image.now lent id ids (through_refusal (refusal 15 0)) ids
   unfolding through_verdict
-  through_by_short yes' known short = through_refused (refusal 11 0) (rw (yes', known, short)) refl
+  through_by_id id ids none =
+      through_refused t.image.now lent id ids (refusal 15 0) (rw (t.accepted, unlisted)) refl
+    where
+      unlisted : listed (tasks (records t.image.now)) id ≡ false
+      unlisted = le-ltb _ _ (omega (arith, none, t.tasks_counted))
 
-  -- and one that is worked out
-  pub through_answered : accepted (table_verdict image) ≡ true → listed (tasks (records image)) id ≡ true → 64 ≤ length lent → 64 ≤ length ids
-      → (chain : List ℕ) → Heaviest (Through (task_count (records image)) (related (records image) lent) (place_of (tasks (records image)) id)) (size_at (records image)) (id_at (records image)) chain
-      → (answer : Shown) (later : List ℕ) → answer ≡ through_found (records image) chain → later ≡ over (map (id_at (records image)) chain) ids
-      → ThroughCall image lent id ids answer later
+  -- the id is listed
+  module _ (id place : ℕ) (here : place ≡ place_of (tasks (records t.image.now)) id) (below : place < t.tasks) where
+    known : listed (tasks (records t.image.now)) id ≡ true
+    known = lt-ltb _ _ (omega (arith, here, below, t.tasks_counted))
+
+    pub through_by_short : (ids : List ℕ) → (length lent < 64) ⊎ ((64 ≤ length lent) × (length ids < 64)) → ThroughCall t.image.now lent id ids (through_refusal (refusal 11 0)) ids
+    unfolding through_verdict
+    through_by_short ids which =
+        through_refused t.image.now lent id ids (refusal 11 0) (rw (t.accepted, known, short (length lent) (length ids) which)) refl
+
+-- the rows are the relation of the table and a lent map
+module _ (t : Tasks) (lent rows : List ℕ) (same : cell rows ≡ related (records t.table.image.now) lent) where
+  abbrev image : List ℕ
+  image = t.table.image.now
+
+  abbrev rs : List (List ℕ)
+  rs = records image
+
+  abbrev count : ℕ
+  count = t.table.tasks
+
+  whole : Shape rs
+  whole = shape t.table
+
+  -- every task has a size
+  pub some_size : (i : ℕ) → i < count → 0 < get_or t.columns.sizes i 0
+  some_size i h =
+      omega (arith, size_is rs count t.columns whole t.read i, accepted_sizes image t.table.accepted i (omega (arith, t.read.count)))
+
+  -- what was found over them is right for the table and the map
+  pub room_answered : (reserve : ℕ) (room later : List ℤ) (weights : List ℕ) → 64 ≤ length lent → 64 ≤ length room → WeightsThrough count rows t.columns.sizes weights
+      → later ≡ over (up_to (λ i. sub_ℕ reserve (get_or weights i 0)) count) room → RoomLeftCall image lent reserve room fine later
+  unfolding room_left_verdict
+  room_answered reserve room later weights map_long room_long found written =
+      record {
+        answered = sym verdict;
+        refused = λ h. never (accepted (room_left_verdict image lent room)) (ap accepted verdict) h;
+        worked = λ h.
+            record {
+              heaviest = λ i. get_or weights i 0;
+              right = λ i below. over_relation rs lent count t.columns whole t.read rows same (λ n R. Through n R i) (get_or weights i 0) (found i (omega (arith, t.read.count)));
+              written = written ∙ ap (λ (n : ℕ). over (up_to (λ i. sub_ℕ reserve (get_or weights i 0)) n) room) t.read.count;
+            };
+      }
+    where
+      verdict : room_left_verdict image lent room ≡ fine
+      verdict = rw (t.table.accepted, le-ltb (length lent) 64 map_long, le-ltb (length room) 64 room_long)
+
+  pub through_answered : (id place : ℕ) (best : Best) (ids later : List ℕ) → place ≡ place_of (tasks rs) id → place < count → 64 ≤ length lent → 64 ≤ length ids
+      → length best.chain.places ≡ 64 → HeaviestFound (Through count (cell rows) place) t.columns.sizes best
+      → later ≡ over (map (λ i. get_or t.columns.ids i 0) (best_of best)) ids
+      → ThroughCall image lent id ids (record { number = 0; place = 0; weight = best.weight; length = best.chain.length }) later
   unfolding through_verdict
-  through_answered yes' known map_long room_long chain right answer later told written =
+  through_answered id place best ids later here below map_long room_long long found written =
       record {
         refused = λ h. never (accepted (through_verdict image lent id ids)) verdict h;
-        worked = λ h. record { chain = chain; right = right; found = (told, written) };
+        worked = λ h.
+            record {
+              chain = best_of best;
+              right = rw here at (heaviest_found rs lent count t.columns whole t.read rows same (λ n R. Through n R place) (λ n R d through. chain_within n R d through.0) (best_of best) found.heaviest);
+              found = (
+                rw (found.weighs ∙ ap (λ (S : ℕ → ℕ). weight S (best_of best)) (sizes_same rs lent count t.columns whole t.read), listed_long best.chain long) refl,
+                written ∙ ap (λ (f : ℕ → ℕ). over (map f (best_of best)) ids) (ids_same rs lent count t.columns whole t.read),
+              );
+            };
       }
     where
       verdict : accepted (through_verdict image lent id ids) ≡ true
-      verdict = rw (yes', known, le-ltb (length lent) 64 map_long, le-ltb (length ids) 64 room_long)
-
--- the tasks of an accepted table were read, and the rows of their relation over a lent map were made
-module _ (image : List ℕ) (known : (k : ℕ) → Fits w8 (get_or image k 0)) (right : accepted (table_verdict image) ≡ true) (count : ℕ) (columns : List ℕ)
-    (read : TasksRead (records image) count columns) (lent rows : List ℕ)
-    (made : RelatedRows count (threshold_column columns) (priority_column columns) lent rows) where
-  pub arrays : Arrays count rows (size_column columns)
-  arrays = rows_arrays image known right count columns read lent rows made
-
-  pub rising : RowsRise count rows (priority_column columns)
-  rising = rows_rising image known right count columns read lent rows made
-
-  same : cell rows ≡ related (records image) lent
-  same = rows_same (records image) lent count columns (shape image known right) read rows made.cells
-
-  -- every task has a size
-  pub some_size : (i : ℕ) → i < count → 0 < get_or (size_column columns) i 0
-  some_size i h =
-      omega (arith, size_is (records image) count columns (shape image known right) read i, accepted_sizes image right i (omega (arith, read.count)))
-
-  -- what was found over the rows is right for the table and the map
-  pub weights_right : (weights : List ℕ) → WeightsThrough count rows (size_column columns) weights → (i : ℕ) → i < task_count (records image)
-      → Largest (Through (task_count (records image)) (related (records image) lent) i) (weight (size_at (records image))) (get_or weights i 0)
-  weights_right weights found i h =
-      over_relation (records image) lent count columns (shape image known right) read rows same (λ n R. Through n R i) (get_or weights i 0) (found i (omega (arith, read.count)))
-
-  pub chain_right : (place : ℕ) (best : Best) → HeaviestFound (Through count (cell rows) place) (size_column columns) best
-      → Heaviest (Through (task_count (records image)) (related (records image) lent) place) (size_at (records image)) (id_at (records image)) (best_of best)
-  chain_right place best found =
-      heaviest_found (records image) lent count columns (shape image known right) read rows same (λ n R. Through n R place) (λ n R d through. chain_within n R d through.0) (best_of best) found.heaviest
-
-  pub chain_weighs : (place : ℕ) (best : Best) → HeaviestFound (Through count (cell rows) place) (size_column columns) best
-      → best.weight ≡ weight (size_at (records image)) (best_of best)
-  chain_weighs place best found =
-      found.weighs ∙ ap (λ (S : ℕ → ℕ). weight S (best_of best)) (sizes_same (records image) lent count columns (shape image known right) read)
+      verdict = rw (t.table.accepted, known t.table lent id place here below, le-ltb (length lent) 64 map_long, le-ltb (length ids) 64 room_long)

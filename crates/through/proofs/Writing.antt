@@ -1,29 +1,13 @@
--- The figures, written one by one: what a weight leaves of the reserve is a number of 64 bits with a sign.
+-- The figures, written one by one over the start of the room.
 use Prim.Native.Nat.{ℕ, ◌+◌, ◌<◌}
 use mathlib.Core.List.{List}
 use mathlib.Core.Path.{◌≡◌, refl, ◌∙◌}
-use native.Mathlib.Omega.{arith}
-use lib.Dec.{ltb}
-use lib.IntN.{ℤ, sub_ℕ}
+use lib.IntN.{ℤ}
 use lib.ListN.{length, set}
-use mir.Syntax.{w64}
-use mir.Val.{SFits, to_z, of_z}
-use mir.Facts.{to_z-of_z}
 use Rattle.rules.specs.Numbers.{up_to}
 use Rattle.rules.specs.Calls.{over}
-use Rattle.rules.proofs.Numbers.{either, up_to_step, length-up_to}
+use Rattle.rules.proofs.Numbers.{up_to_step, length-up_to}
 use Rattle.stack.proofs.Writing.{stored_next}
-
-module _ (whole part : ℕ) (small : whole < 4294967296) (less : part < 4294967296) where
-  -- what is left fits 64 bits, and is read as it was written
-  fits : SFits w64 (sub_ℕ whole part)
-  fits =
-      either (ltb whole part)
-      (λ t. rw t (record { sfits = omega arith }))
-      (λ t. rw t (record { sfits = omega arith }))
-
-  pub left_kept : to_z w64 (of_z w64 (sub_ℕ whole part)) ≡ sub_ℕ whole part
-  left_kept = to_z-of_z fits
 
 -- no figure is written yet
 pub figures_none : (f : ℕ → ℤ) (l : List ℤ) → l ≡ over (up_to f 0) l

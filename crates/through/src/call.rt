@@ -3,16 +3,19 @@
 ghost use Rattle.std.specs.Prelude.{◌≡◌, ◌≤◌, length, get_or};
 ghost use Rattle.std.proofs.Math.IntN.{sub_ℕ};
 ghost use Rattle.rules.specs.Numbers.{up_to};
-ghost use Rattle.rules.specs.Refusals.{refusal as Refusals·refusal};
-ghost use Rattle.rules.specs.Calls.{over, RoomLeftCall, ThroughCall, through_refusal};
+ghost use Rattle.rules.specs.Blocks.{records};
+ghost use Rattle.rules.specs.Preempt.{cell};
+ghost use Rattle.rules.specs.Chains.{related};
+ghost use Rattle.rules.specs.Told.{judged, chain_told};
+ghost use Rattle.rules.specs.Calls.{over, RoomLeftCall, ThroughCall};
 
 use crate::near::heaviest_through;
 use crate::weights::weights_through;
-use preempt::columns::{IDS, PRIORITIES, SIZES, THRESHOLDS, column_of};
-use preempt::tasks::{read_tasks, task_place};
-use rules::{Shown, Verdict};
+use preempt::tasks::{Tasks, read_tasks, task_place};
+use rules::{ChainFound, Refusal};
 use stack::call::write_ids;
 use stack::related::related_rows;
+use stack::rising::Rising;
 use table::table_verdict;
 
 // What a weight leaves of the reserve.
@@ -23,8 +26,8 @@ fn left_of(reserve: u32, weight: u32) -> i64
 }
 
 // Writes what each weight leaves of the reserve over the start of the room.
-fn write_figures(weights: &[u32], count: usize, reserve: u32, room: &mut [i64])
-    requires { (count ≤ 64) × (length weights.now ≡ 64) × (64 ≤ length room.old) }
+fn write_figures(weights: &[u32; 64], count: usize, reserve: u32, room: &mut [i64])
+    requires in_bounds { (count ≤ 64) × (64 ≤ length room.old) }
     ensures { room.new ≡ over (up_to (λ i. sub_ℕ reserve (get_or weights.now i 0)) count) room.old }
 {
     for place in 0..count {
@@ -32,83 +35,63 @@ fn write_figures(weights: &[u32], count: usize, reserve: u32, room: &mut [i64])
     }
 }
 
-// For each task of a table image, by place, the reserve less what the heaviest chain that contains it weighs, over a lent map
-// of any contents. The other places of the room keep their values; a refusal writes nothing.
-pub fn room_left(image: &[u8], map: &[u64], reserve: u32, room: &mut [i64]) -> Verdict
-    ensures { RoomLeftCall image.now map.now reserve room.old result room.new }
+// The tasks of a table with the rows of their relation over a lent map.
+fn related_tasks(tasks: &Tasks, map: &[u64]) -> Rising
+    requires in_bounds { 64 ≤ length map.now }
+    ensures count { result.count ≡ tasks.now.table.tasks }
+    ensures related { cell result.rows ≡ related (records tasks.now.table.image.now) map.now }
+    ensures sizes { result.sizes ≡ tasks.now.columns.sizes }
 {
-    let verdict = table_verdict(image);
-    if verdict.number != 0 {
-        return verdict;
-    }
-    if map.len() < 64 || room.len() < 64 {
-        return Verdict {
-            number: 11,
-            place: 0,
-        };
-    }
-    let tasks = read_tasks(image);
-    let priorities = column_of(&tasks.columns, PRIORITIES);
-    let sizes = column_of(&tasks.columns, SIZES);
-    let rows = related_rows(
-        column_of(&tasks.columns, THRESHOLDS),
-        priorities,
-        map,
-        tasks.count,
-    );
-    let weights = weights_through(&rows, sizes, priorities, tasks.count);
-    write_figures(&weights, tasks.count, reserve, room);
-    Verdict {
-        number: 0,
-        place: 0,
+    Rising {
+        count: tasks.table.tasks,
+        rows: related_rows(
+            &tasks.columns.thresholds,
+            &tasks.columns.priorities,
+            map,
+            tasks.table.tasks,
+        ),
+        sizes: tasks.columns.sizes,
+        priorities: tasks.columns.priorities,
     }
 }
 
-// A refused call: number and place, and all else 0.
-fn refused(number: u32, place: u32) -> Shown
-    ensures { result ≡ through_refusal (Refusals·refusal number place) }
+// For each task of a table image, by place, the reserve less what the heaviest chain that contains it weighs, over a lent map
+// of any contents. The other places of the room keep their values; a refusal writes nothing.
+pub fn room_left(image: &[u8], map: &[u64], reserve: u32, room: &mut [i64]) -> Result<(), Refusal>
+    ensures { RoomLeftCall image.now map.now reserve room.old (judged result) room.new }
 {
-    Shown {
-        number,
-        place,
-        weight: 0,
-        length: 0,
+    let table = table_verdict(image)?;
+    if map.len() < 64 || room.len() < 64 {
+        return Err(Refusal::Short);
     }
+    let rising = related_tasks(&read_tasks(&table), map);
+    let weights = weights_through(&rising);
+    write_figures(&weights, rising.count, reserve, room);
+    Ok(())
 }
 
 // The heaviest chain that contains the task with this id, of a table image over a lent map of any contents, with its weight
 // and length. The chain's ids go to the lent room; a refusal writes nothing.
-pub fn chain_through(image: &[u8], map: &[u64], id: u32, ids: &mut [u16]) -> Shown
-    ensures { ThroughCall image.now map.now id ids.old result ids.new }
+pub fn chain_through(
+    image: &[u8],
+    map: &[u64],
+    id: u32,
+    ids: &mut [u16],
+) -> Result<ChainFound, Refusal>
+    ensures { ThroughCall image.now map.now id ids.old (chain_told result) ids.new }
 {
-    let verdict = table_verdict(image);
-    if verdict.number != 0 {
-        return refused(verdict.number, verdict.place);
-    }
-    let tasks = read_tasks(image);
-    let place = task_place(image, id);
-    if place == tasks.count {
-        return refused(15, 0);
-    }
+    let table = table_verdict(image)?;
+    let Some(place) = task_place(&table, id) else {
+        return Err(Refusal::Unlisted);
+    };
     if map.len() < 64 || ids.len() < 64 {
-        return refused(11, 0);
+        return Err(Refusal::Short);
     }
-    let priorities = column_of(&tasks.columns, PRIORITIES);
-    let sizes = column_of(&tasks.columns, SIZES);
-    let rows = related_rows(
-        column_of(&tasks.columns, THRESHOLDS),
-        priorities,
-        map,
-        tasks.count,
-    );
-    let best = heaviest_through(&rows, sizes, priorities, tasks.count, place);
-    let places = best.places;
-    let length = best.length;
-    write_ids(places, length, column_of(&tasks.columns, IDS), ids);
-    Shown {
-        number: 0,
-        place: 0,
+    let tasks = read_tasks(&table);
+    let best = heaviest_through(&related_tasks(&tasks, map), place);
+    write_ids(best.chain.as_slice(), &tasks.columns.ids, ids);
+    Ok(ChainFound {
         weight: best.weight,
-        length: length as u32,
-    }
+        length: best.chain.length as u32,
+    })
 }

@@ -47,4 +47,4 @@ returns c =
     let block = c.args.block.now in
     let all = whole block s.i s.sum s.sums (omega arith) s.invariant.1 in
     let rest : 511 * s.sum - s.sums ≡ sum_to (term block) 510 = omega arith in
-    (ap (λ (n : ℕ). n % 65521) rest, omega arith)
+    record { right = ap (λ (n : ℕ). n % 65521) rest; in_two_bytes = omega arith }

@@ -12,27 +12,27 @@ use Rattle.rules.proofs.Numbers.{lowest_more, lowest_here, lowest_zero, get_or-u
 use Rattle.patch.specs.Parts.{is_put_in}
 use Rattle.patch.proofs.parts.first_put_in.Goals as goal
 
-pub loop-k-init : goal.loop-k-init
-loop-k-init c = (omega arith, lowest_zero (is_put_in (records c.args.patch.now)))
+pub loop-place-init : goal.loop-place-init
+loop-place-init c = lowest_zero (is_put_in (records c.args.patch.now))
 
 pub returns-then-byte_at-ne0 : goal.returns-then-byte_at-ne0
 returns-then-byte_at-ne0 c =
     let patch = c.args.patch.now in
-    let k = c.loop-k.k in
+    let k = c.loop-place.place in
     let inside : k < record_count patch = omega (arith, c.record_count-count.ensures) in
     let way : way_of (get_or (records patch) k []) ≡ c.byte_at.result = ap way_of (get_or-up_to (record_at patch) (record_count patch) k [] inside ∙ sym c.record_at.ensures) ∙ sym c.byte_at.ensures.0 in
-    sym (lowest_here (is_put_in (records patch)) k (record_count patch) c.loop-k.invariant.1 (ap not (ne_eqb (way_of (get_or (records patch) k [])) 0 (λ e. c.if-byte_at-ne0.true (sym way ∙ e)))) inside)
+    sym (lowest_here (is_put_in (records patch)) k (record_count patch) c.loop-place.invariant (ap not (ne_eqb (way_of (get_or (records patch) k [])) 0 (λ e. c.if-byte_at-ne0.true (sym way ∙ e)))) inside)
 
-pub loop-k-preserved : goal.loop-k-preserved
-loop-k-preserved c =
+pub loop-place-preserved : goal.loop-place-preserved
+loop-place-preserved c =
     let patch = c.args.patch.now in
-    let k = c.loop-k.k in
+    let k = c.loop-place.place in
     let inside : k < record_count patch = omega (arith, c.record_count-count.ensures) in
     let way : way_of (get_or (records patch) k []) ≡ c.byte_at.result = ap way_of (get_or-up_to (record_at patch) (record_count patch) k [] inside ∙ sym c.record_at.ensures) ∙ sym c.byte_at.ensures.0 in
-    (omega arith, lowest_more (is_put_in (records patch)) k c.loop-k.invariant.1 (ap not (eq-eqb (way_of (get_or (records patch) k [])) 0 (way ∙ c.if-byte_at-ne0.false))))
+    lowest_more (is_put_in (records patch)) k c.loop-place.invariant (ap not (eq-eqb (way_of (get_or (records patch) k [])) 0 (way ∙ c.if-byte_at-ne0.false)))
 
 pub returns : goal.returns
 returns c =
     let patch = c.args.patch.now in
-    let end : c.loop-k.k ≡ record_count patch = omega (arith, c.record_count-count.ensures) in
-    sym c.loop-k.invariant.1 ∙ ap (lowest (is_put_in (records patch))) end
+    let end : c.loop-place.place ≡ record_count patch = omega (arith, c.record_count-count.ensures) in
+    c.record_count-count.ensures ∙ sym end ∙ sym c.loop-place.invariant ∙ ap (lowest (is_put_in (records patch))) end

@@ -1,12 +1,8 @@
 -- The loop keeps how many of the places passed are in the set.
-use Prim.Native.Nat.{◌-◌, ◌≤◌}
 use mathlib.Core.Path.{◌≡◌}
 use Rattle.rules.specs.Numbers.{count_to}
 use Rattle.rules.specs.Preempt.{bit_at}
 use Rattle.patch.proofs.touched.count_places.Given as goal
 
 abbrev pub invariant-loop-i : goal.invariant-loop-i
-invariant-loop-i l = (l.i ≤ l.count) × (l.found ≡ count_to (bit_at l.set) l.i)
-
-abbrev pub decreases-loop-i : goal.decreases-loop-i
-decreases-loop-i l = l.count - l.i
+invariant-loop-i l = (l.found ≡ count_to (bit_at l.set) l.i)

@@ -7,7 +7,7 @@ use Rattle.patch.proofs.touched.touched_by.Goals as goal
 
 pub returns : goal.returns
 returns c =
-    let a = c.args in
-    let fields = a.fields.now in
+    let r = c.args.related.now in
+    let fields = c.args.fields.now in
     rw c.union.ensures
-    (marks_either a.count (λ i. concerns fields (get_or a.ids.now i 0) (get_or a.transactions.now i 0)) (along_in a.ids.now a.count a.beside.now fields) c.concerned.result c.tasks_along.result c.concerned.ensures c.tasks_along.ensures)
+    (marks_either r.tasks.table.tasks (λ i. concerns fields (get_or r.tasks.columns.ids i 0) (get_or r.tasks.columns.transactions i 0)) (along_in r.tasks.columns.ids r.tasks.table.tasks r.beside fields) c.concerned.result c.tasks_along.result c.concerned.ensures c.tasks_along.ensures)

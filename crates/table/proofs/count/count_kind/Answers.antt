@@ -13,13 +13,13 @@ use Rattle.table.proofs.count.count_kind.Goals as goal
 pub overflow_sub-result : goal.overflow_sub-result
 overflow_sub-result c =
     let counted : (c.kind_start-2.result ≤ c.kind_start.result) × (length (of_kind c.args.kind (records c.args.image.now)) ≡ c.kind_start.result - c.kind_start-2.result) = kind_counted (records c.args.image.now) c.args.kind c.kind_start-2.result c.kind_start.result
-    (kinds_grouped c.args.image.now (λ k. (c.type_inv.image k).fits) c.requires.image_value.0)
+    (kinds_grouped c.args.image.now (λ k. (c.type_inv.image k).fits) c.requires.sound)
     c.kind_start-2.ensures c.kind_start.ensures in
     omega (arith, counted.0)
 
 pub returns : goal.returns
 returns c =
     let counted : (c.kind_start-2.result ≤ c.kind_start.result) × (length (of_kind c.args.kind (records c.args.image.now)) ≡ c.kind_start.result - c.kind_start-2.result) = kind_counted (records c.args.image.now) c.args.kind c.kind_start-2.result c.kind_start.result
-    (kinds_grouped c.args.image.now (λ k. (c.type_inv.image k).fits) c.requires.image_value.0)
+    (kinds_grouped c.args.image.now (λ k. (c.type_inv.image k).fits) c.requires.sound)
     c.kind_start-2.ensures c.kind_start.ensures in
-    (sym counted.1, omega (arith, c.kind_start.ensures.inside, length-up_to (record_at c.args.image.now) (record_count c.args.image.now)))
+    record { counted = sym counted.1; inside = omega (arith, c.kind_start.ensures.inside, length-up_to (record_at c.args.image.now) (record_count c.args.image.now)) }

@@ -26,13 +26,13 @@ read image k byte fields h e b = b ∙ ap kind_of (e ∙ sym (get_or-up_to (reco
 
 pub returns-then-kind-le1 : goal.returns-then-kind-le1
 returns-then-kind-le1 c =
-    let kinds = known c.args.image.now c.requires.image_value in
+    let kinds = known c.args.image.now c.requires.sound in
     record { inside = omega arith; before = λ k h. absurd (omega arith); there = λ h. omega (arith, c.if-kind-le1.true, (kinds 0 h).0) }
 
 pub returns-then-kind-gt3 : goal.returns-then-kind-gt3
 returns-then-kind-gt3 c =
     let image = c.args.image.now in
-    let kinds = known image c.requires.image_value in
+    let kinds = known image c.requires.sound in
     let many = length-up_to (record_at image) (record_count image) in
     record {
       inside = omega (arith, c.record_count-count.ensures);
@@ -51,7 +51,7 @@ loop-low-preserved-then-byte_at-kind c =
     let inside : middle < record_count image = omega (arith, s.invariant.1, c.loop-low-test.true) in
     let here = read image middle c.byte_at.result c.record_at.result.now inside c.record_at.ensures c.byte_at.ensures.0 in
     let lower : kind_at image middle < c.args.kind = omega (arith, here, c.if-byte_at-kind.true) in
-    let grouped = kinds_grouped image (λ k. (c.type_inv.image k).fits) c.requires.image_value in
+    let grouped = kinds_grouped image (λ k. (c.type_inv.image k).fits) c.requires.sound in
     let many = length-up_to (record_at image) (record_count image) in
     (omega (arith, c.loop-low-test.true), s.invariant.1, below_more (λ k. kind_at image k < c.args.kind) middle (λ k h. omega (arith, grouped k middle h (omega arith))) lower, s.invariant.3)
 

@@ -30,24 +30,24 @@ one_more rs counts k at inside here size right i h =
     get_or-set_other counts at i _ 0 other ∙ right i h ∙ sym (count_to_fails test k (ne_eqb _ _ (λ e. other (sym e ∙ here)))))
 
 pub loop-k-init : goal.loop-k-init
-loop-k-init c = (omega arith, refl, λ i h. get_or-replicate {A = ℕ} 8 i 0 0 h ∙ sym (sum_to_zero (λ k. cond (eqb (slot_of (get_or (records c.args.image.now) k [])) i) 1 0)))
+loop-k-init c = (refl, λ i h. get_or-replicate {A = ℕ} 8 i 0 0 h ∙ sym (sum_to_zero (λ k. cond (eqb (slot_of (get_or (records c.args.image.now) k [])) i) 1 0)))
 
 pub overflow_add-counts : goal.overflow_add-counts
 overflow_add-counts c =
     let rs = records c.args.image.now in
-    let at = c.slot-at.result in
-    omega (arith, c.loop-k.invariant.2 at c.slot-at.ensures.1, count_to_le (λ k. eqb (slot_of (get_or rs k [])) at) c.loop-k.k)
+    let at = c.slot.result in
+    omega (arith, c.loop-k.invariant.1 at c.slot.ensures.1, count_to_le (λ k. eqb (slot_of (get_or rs k [])) at) c.loop-k.k)
 
 pub loop-k-preserved : goal.loop-k-preserved
 loop-k-preserved c =
     let image = c.args.image.now in
     let k = c.loop-k.k in
-    let inside : k < record_count image = omega (arith, c.record_count-count.ensures) in
-    let here : slot_of (get_or (records image) k []) ≡ c.slot-at.result = ap slot_of (get_or-up_to (record_at image) (record_count image) k [] inside ∙ sym c.record_at.ensures) ∙ sym c.slot-at.ensures.0 in
-    (omega arith, length-set c.loop-k.counts c.slot-at.result _ ∙ c.loop-k.invariant.1, one_more (records image) c.loop-k.counts k c.slot-at.result c.slot-at.ensures.1 here c.loop-k.invariant.1 c.loop-k.invariant.2)
+    let inside : k < record_count image = omega (arith, c.record_count-k-end.ensures) in
+    let here : slot_of (get_or (records image) k []) ≡ c.slot.result = ap slot_of (get_or-up_to (record_at image) (record_count image) k [] inside ∙ sym c.record_at.ensures) ∙ sym c.slot.ensures.0 in
+    (length-set c.loop-k.counts c.slot.result _ ∙ c.loop-k.invariant.0, one_more (records image) c.loop-k.counts k c.slot.result c.slot.ensures.1 here c.loop-k.invariant.0 c.loop-k.invariant.1)
 
 pub returns : goal.returns
 returns c =
     let image = c.args.image.now in
-    let end : c.loop-k.k ≡ length (records image) = omega (arith, c.record_count-count.ensures, length-up_to (record_at image) (record_count image)) in
-    record { size = c.loop-k.invariant.1; right = λ i h. c.loop-k.invariant.2 i h ∙ ap (slotted (records image) i) end }
+    let end : c.loop-k.k ≡ length (records image) = omega (arith, c.record_count-k-end.ensures, length-up_to (record_at image) (record_count image)) in
+    record { size = c.loop-k.invariant.0; right = λ i h. c.loop-k.invariant.1 i h ∙ ap (slotted (records image) i) end }

@@ -1,6 +1,6 @@
 -- The loop keeps that each of the eight counts is that of the records passed.
 -- one more record is counted where it belongs, and nowhere else
-use Prim.Native.Nat.{ℕ, ◌-◌, ◌≤◌, ◌<◌}
+use Prim.Native.Nat.{ℕ, ◌<◌}
 use mathlib.Core.Path.{◌≡◌}
 use lib.ListN.{length, get_or}
 use Rattle.rules.specs.Blocks.{records}
@@ -8,7 +8,4 @@ use Rattle.table.specs.Tally.{slotted}
 use Rattle.table.proofs.count.tally.Given as goal
 
 abbrev pub invariant-loop-k : goal.invariant-loop-k
-invariant-loop-k l = (l.k ≤ l.count) × (length l.counts ≡ 8) × ((i : ℕ) → i < 8 → get_or l.counts i 0 ≡ slotted (records l.image) i l.k)
-
-abbrev pub decreases-loop-k : goal.decreases-loop-k
-decreases-loop-k l = l.count - l.k
+invariant-loop-k l = (length l.counts ≡ 8) × ((i : ℕ) → i < 8 → get_or l.counts i 0 ≡ slotted (records l.image) i l.k)

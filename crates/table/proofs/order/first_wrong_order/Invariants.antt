@@ -1,5 +1,5 @@
 -- The loop keeps the key of the record before, and that no record passed is out of order.
-use Prim.Native.Nat.{◌-◌, ◌≤◌, ◌<◌}
+use Prim.Native.Nat.{◌-◌}
 use mathlib.Core.Path.{◌≡◌}
 use mathlib.Core.List.{[]}
 use lib.ListN.{get_or}
@@ -10,7 +10,4 @@ use Rattle.rules.specs.Refusals.{order_wrong}
 use Rattle.table.proofs.order.first_wrong_order.Given as goal
 
 abbrev pub invariant-loop-k : goal.invariant-loop-k
-invariant-loop-k l = (0 < l.k) × (l.k ≤ l.count) × (l.before ≡ image_key (get_or (records l.image) (l.k - 1) [])) × (lowest (order_wrong (records l.image)) l.k ≡ l.k)
-
-abbrev pub decreases-loop-k : goal.decreases-loop-k
-decreases-loop-k l = l.count - l.k
+invariant-loop-k l = (l.before ≡ image_key (get_or (records l.image) (l.k - 1) [])) × (lowest (order_wrong (records l.image)) l.k ≡ l.k)

@@ -1,5 +1,5 @@
 -- The loop keeps the rows with the cells of the pairs passed; each pair adds its cell where it is of the sort.
-use Prim.Native.Nat.{◌+◌, ◌-◌, ◌≤◌}
+use Prim.Native.Nat.{◌+◌, ◌≤◌}
 use mathlib.Core.Path.{◌≡◌}
 use Rattle.rules.specs.Records.{task_count}
 use Rattle.rules.specs.Blocks.{records, record_count}
@@ -9,7 +9,4 @@ use Rattle.table.proofs.pairs.mark_pairs.Given as goal
 
 abbrev pub invariant-loop-k : goal.invariant-loop-k
 invariant-loop-k l =
-    (l.k ≤ l.count) × (l.first + l.count ≤ record_count l.image) × (l.rows ≡ map_from (task_count (records l.image)) (marked_to l.sort (records l.image) l.initial.rows l.k))
-
-abbrev pub decreases-loop-k : goal.decreases-loop-k
-decreases-loop-k l = l.count - l.k
+    (l.first + l.count ≤ record_count l.image) × (l.rows ≡ map_from (task_count (records l.image)) (marked_to l.sort (records l.image) l.initial.rows l.k))

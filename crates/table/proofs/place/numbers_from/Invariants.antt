@@ -1,5 +1,5 @@
 -- The loop keeps that the numbers stored are those of the records passed.
-use Prim.Native.Nat.{ℕ, ◌+◌, ◌-◌, ◌≤◌, ◌<◌}
+use Prim.Native.Nat.{ℕ, ◌+◌, ◌<◌}
 use mathlib.Core.Path.{◌≡◌}
 use lib.ListN.{length, get_or}
 use Rattle.rules.specs.Blocks.{record_at}
@@ -7,7 +7,4 @@ use Rattle.rules.specs.Records.{number_of}
 use Rattle.table.proofs.place.numbers_from.Given as goal
 
 abbrev pub invariant-loop-k : goal.invariant-loop-k
-invariant-loop-k l = (l.k ≤ l.count) × (length l.numbers ≡ 64) × ((i : ℕ) → i < l.k → get_or l.numbers i 0 ≡ number_of (record_at l.image (l.first + i)))
-
-abbrev pub decreases-loop-k : goal.decreases-loop-k
-decreases-loop-k l = l.count - l.k
+invariant-loop-k l = (length l.numbers ≡ 64) × ((i : ℕ) → i < l.k → get_or l.numbers i 0 ≡ number_of (record_at l.image (l.first + i)))

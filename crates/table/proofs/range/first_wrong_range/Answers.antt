@@ -1,37 +1,17 @@
-use Prim.Native.Nat.{◌<◌}
-use mathlib.Core.Path.{◌≡◌, sym, ap, ◌∙◌}
-use mathlib.Core.List.{[]}
-use Rattle.rules.specs.Numbers.{lowest}
-use Rattle.rules.specs.Blocks.{record_at, record_count}
-use Rattle.rules.proofs.Numbers.{lowest_more, lowest_here, lowest_zero, get_or-up_to}
+-- The search over the records is that of the definition.
+use Rattle.std.proofs.Common.{rules, ◌≡◌}
+use Rattle.std.proofs.lemmas.Iterator.{first_from_Range}
+use mathlib.Core.List.{List}
+use Prim.Native.Nat.{ℕ}
+use mathlib.Core.Bool.{Bool, true, false}
+use Rattle.rules.specs.Blocks.{record_at}
 use Rattle.rules.specs.Records.{range_wrong}
-use native.Mathlib.Omega.{arith}
-use Rattle.table.proofs.range.first_wrong_range.Invariants.{fault}
+use Rattle.table.proofs.Finding.{first_record}
 use Rattle.table.proofs.range.first_wrong_range.Goals as goal
-
-pub loop-k-init : goal.loop-k-init
-loop-k-init c = (omega arith, lowest_zero (fault c.args.image.now))
-
-pub returns-then-is_range_wrong : goal.returns-then-is_range_wrong
-returns-then-is_range_wrong c =
-    let image = c.args.image.now in
-    let k = c.loop-k.k in
-    let inside : k < record_count image = omega (arith, c.record_count-count.ensures) in
-    let here : fault image k ≡ c.is_range_wrong.result =
-    ap (range_wrong) (get_or-up_to (record_at image) (record_count image) k [] inside ∙ sym c.record_at.ensures) ∙ sym c.is_range_wrong.ensures in
-    sym (lowest_here (fault image) k (record_count image) c.loop-k.invariant.1 (here ∙ c.if-is_range_wrong.true) inside)
-
-pub loop-k-preserved : goal.loop-k-preserved
-loop-k-preserved c =
-    let image = c.args.image.now in
-    let k = c.loop-k.k in
-    let inside : k < record_count image = omega (arith, c.record_count-count.ensures) in
-    let here : fault image k ≡ c.is_range_wrong.result =
-    ap (range_wrong) (get_or-up_to (record_at image) (record_count image) k [] inside ∙ sym c.record_at.ensures) ∙ sym c.is_range_wrong.ensures in
-    (omega arith, lowest_more (fault image) k c.loop-k.invariant.1 (here ∙ c.if-is_range_wrong.false))
 
 pub returns : goal.returns
 returns c =
     let image = c.args.image.now in
-    let end : c.loop-k.k ≡ record_count image = omega (arith, c.record_count-count.ensures) in
-    sym c.loop-k.invariant.1 ∙ ap (lowest (fault image)) end
+    let test : List ℕ → Bool = range_wrong in
+    first_record image test c.record_count.result c.find.result c.record_count.ensures
+    (first_from_Range _ _ _ _ (λ k. test (record_at image k) ≡ true) (λ k. test (record_at image k) ≡ false) c.find.ensures.ran (λ k q called. search rules) (λ k q called. search rules))

@@ -1,16 +1,27 @@
--- The test is that of the kind at hand.
-use borrow.Author.Tests.{eq-eqb, ne_eqb}
+-- Each kind has its ranges.
+use native.Mathlib.Omega.{arith}
+use Rattle.rules.specs.declared.Kind.TheVariants.{Transaction, Task, Pair}
 use Rattle.rules.specs.Records.{range_wrong}
+use Rattle.table.proofs.KindsRead.{kind_is, kind_none}
 use Rattle.table.proofs.range.is_range_wrong.Goals as goal
 
-pub returns-then-kind-eq1 : goal.returns-then-kind-eq1
+pub returns-in_default : goal.returns-in_default
 unfolding range_wrong
-returns-then-kind-eq1 c = rw (← c.byte_at-kind.ensures.0, eq-eqb _ _ c.if-kind-eq1.true, ← c.is_transaction_right.ensures)
+returns-in_default c =
+    let none = kind_none c.args.fields.now c.byte_at.result c.byte_at.ensures.0 c.in_default.ensures.1 in
+    rw (none 1 (omega arith) (omega arith), none 2 (omega arith) (omega arith), c.is_pair_right.ensures)
 
-pub returns-then-kind-eq2 : goal.returns-then-kind-eq2
+pub returns-in-Transaction : goal.returns-in-Transaction
 unfolding range_wrong
-returns-then-kind-eq2 c = rw (← c.byte_at-kind.ensures.0, ne_eqb _ _ c.if-kind-eq1.false, eq-eqb _ _ c.if-kind-eq2.true, ← c.is_task_right.ensures)
+returns-in-Transaction c =
+    rw (kind_is c.args.fields.now c.byte_at.result c.byte_at.ensures.0 c.in-Ok.kind Transaction c.in-Ok.ensures c.in-Transaction.is, c.is_transaction_right.ensures)
 
-pub returns : goal.returns
+pub returns-in-Task : goal.returns-in-Task
 unfolding range_wrong
-returns c = rw (← c.byte_at-kind.ensures.0, ne_eqb _ _ c.if-kind-eq1.false, ne_eqb _ _ c.if-kind-eq2.false, ← c.is_pair_right.ensures)
+returns-in-Task c =
+    rw (kind_is c.args.fields.now c.byte_at.result c.byte_at.ensures.0 c.in-Ok.kind Task c.in-Ok.ensures c.in-Task.is, c.is_task_right.ensures)
+
+pub returns-in-Pair : goal.returns-in-Pair
+unfolding range_wrong
+returns-in-Pair c =
+    rw (kind_is c.args.fields.now c.byte_at.result c.byte_at.ensures.0 c.in-Ok.kind Pair c.in-Ok.ensures c.in-Pair.is, c.is_pair_right-in-Pair.ensures)

@@ -1,64 +1,64 @@
 -- Each check that finds a fault answers its refusal, and one that finds none leaves the answer to the next.
-use Prim.Native.Nat.{◌<◌}
-use mathlib.Core.Path.{sym}
-use mathlib.Core.List.{[]}
-use lib.ListN.{get_or}
+use Prim.Native.Nat.{ℕ, ◌<◌}
+use mathlib.Core.List.{List, []}
+use mathlib.Core.Bool.{Bool}
+use mathlib.Core.Path.{◌≡◌}
+use lib.ListN.{length, get_or}
+use native.Mathlib.Omega.{arith}
+use Rattle.std.specs.Prelude.{Some, None}
+use Rattle.rules.specs.declared.Form.{Form}
+use Rattle.rules.specs.declared.Verdict.{Verdict}
 use Rattle.rules.specs.Blocks.{records, record_at, record_count}
 use Rattle.rules.specs.Records.{form_wrong, range_wrong}
-use Rattle.rules.specs.Refusals.{numbered, order_wrong, records_verdict}
-use Rattle.rules.proofs.Numbers.{lowest_le, length-up_to}
-use Rattle.rules.proofs.Refusals.{or_else-refusal, numbered-some, refuse_at_found, refuse_at-none}
-use native.Mathlib.Omega.{arith}
+use Rattle.rules.specs.Refusals.{refusal, refuse_at, or_else, numbered, order_wrong, records_verdict}
+use Rattle.rules.proofs.Numbers.{length-up_to}
+use Rattle.rules.proofs.Refusals.{or_else-refusal, numbered-some}
+use Rattle.image.specs.First.{first}
+use Rattle.image.proofs.First.{refuse_at_first, refuse_at_no_first}
 use Rattle.table.proofs.verdict.check_records.Goals as goal
 
-pub returns-then-misformed-count : goal.returns-then-misformed-count
-unfolding records_verdict
-returns-then-misformed-count c =
-    let form = c.args.form in
-    let image = c.args.image.now in
-    let rs = records image in
-    let size = length-up_to (record_at image) (record_count image) in
-    let counted = c.record_count-count.ensures in
-    let inside4 : c.first_wrong_form-misformed.result < record_count image = omega (arith, c.if-misformed-count.true) in
-    let found4 = refuse_at_found (numbered form 4) (λ k. form_wrong form (get_or rs k [])) (record_count image) c.first_wrong_form-misformed.result (sym c.first_wrong_form-misformed.ensures) inside4 in
-    rw (size, found4, or_else-refusal (numbered form 4) c.first_wrong_form-misformed.result _ (numbered-some form 4 (omega arith)))
+-- one check of the records
+module _ (form : Form) (image : List ℕ) (number : ℕ) (some : 0 < number) (fault : ℕ → Bool) (rest : Verdict) where
+  refused : (place : ℕ) → Some place ≡ first fault (record_count image) → or_else (refuse_at (numbered form number) fault (length (records image))) rest ≡ refusal (numbered form number) place
+  refused place found =
+      rw (length-up_to (record_at image) (record_count image), refuse_at_first (numbered form number) fault (record_count image) place found)
+      (or_else-refusal (numbered form number) place rest (numbered-some form number some))
 
-pub returns-then-misplaced-count : goal.returns-then-misplaced-count
-unfolding records_verdict
-returns-then-misplaced-count c =
-    let form = c.args.form in
-    let image = c.args.image.now in
-    let rs = records image in
-    let size = length-up_to (record_at image) (record_count image) in
-    let counted = c.record_count-count.ensures in
-    let clear4 = refuse_at-none (numbered form 4) (λ k. form_wrong form (get_or rs k [])) (record_count image) (omega (arith, c.first_wrong_form-misformed.ensures, lowest_le (λ k. form_wrong form (get_or rs k [])) (record_count image), c.if-misformed-count.false)) in
-    let inside5 : c.first_wrong_order-misplaced.result < record_count image = omega (arith, c.if-misplaced-count.true) in
-    let found5 = refuse_at_found (numbered form 5) (order_wrong rs) (record_count image) c.first_wrong_order-misplaced.result (sym c.first_wrong_order-misplaced.ensures) inside5 in
-    rw (size, clear4, found5, or_else-refusal (numbered form 5) c.first_wrong_order-misplaced.result _ (numbered-some form 5 (omega arith)))
+  passed : None ≡ first fault (record_count image) → or_else (refuse_at (numbered form number) fault (length (records image))) rest ≡ rest
+  passed found = rw (length-up_to (record_at image) (record_count image), refuse_at_no_first (numbered form number) fault (record_count image) found)
 
-pub returns-then-outside-count : goal.returns-then-outside-count
+pub returns-in-Some : goal.returns-in-Some
 unfolding records_verdict
-returns-then-outside-count c =
-    let form = c.args.form in
+returns-in-Some c =
     let image = c.args.image.now in
-    let rs = records image in
-    let size = length-up_to (record_at image) (record_count image) in
-    let counted = c.record_count-count.ensures in
-    let clear4 = refuse_at-none (numbered form 4) (λ k. form_wrong form (get_or rs k [])) (record_count image) (omega (arith, c.first_wrong_form-misformed.ensures, lowest_le (λ k. form_wrong form (get_or rs k [])) (record_count image), c.if-misformed-count.false)) in
-    let clear5 = refuse_at-none (numbered form 5) (order_wrong rs) (record_count image) (omega (arith, c.first_wrong_order-misplaced.ensures, lowest_le (order_wrong rs) (record_count image), c.if-misplaced-count.false)) in
-    let inside6 : c.first_wrong_range-outside.result < record_count image = omega (arith, c.if-outside-count.true) in
-    let found6 = refuse_at_found (numbered form 6) (λ k. range_wrong (get_or rs k [])) (record_count image) c.first_wrong_range-outside.result (sym c.first_wrong_range-outside.ensures) inside6 in
-    rw (size, clear4, clear5, found6, or_else-refusal (numbered form 6) c.first_wrong_range-outside.result _ (numbered-some form 6 (omega arith)))
+    rw (refused c.args.form image 4 (omega arith) (λ k. form_wrong c.args.form (get_or (records image) k [])) _ c.in-Some.place c.in-Some.ensures)
+
+pub returns-in-Some-first_wrong_order : goal.returns-in-Some-first_wrong_order
+unfolding records_verdict
+returns-in-Some-first_wrong_order c =
+    let image = c.args.image.now in
+    rw (
+      passed c.args.form image 4 (omega arith) (λ k. form_wrong c.args.form (get_or (records image) k [])) _ c.in_default.ensures,
+      refused c.args.form image 5 (omega arith) (order_wrong (records image)) _ c.in-Some-first_wrong_order.place c.in-Some-first_wrong_order.ensures,
+    )
+
+pub returns-in-Some-first_wrong_range : goal.returns-in-Some-first_wrong_range
+unfolding records_verdict
+returns-in-Some-first_wrong_range c =
+    let image = c.args.image.now in
+    rw (
+      passed c.args.form image 4 (omega arith) (λ k. form_wrong c.args.form (get_or (records image) k [])) _ c.in_default.ensures,
+      passed c.args.form image 5 (omega arith) (order_wrong (records image)) _ c.in_default-first_wrong_order.ensures,
+      refused c.args.form image 6 (omega arith) (λ k. range_wrong (get_or (records image) k [])) _ c.in-Some-first_wrong_range.place c.in-Some-first_wrong_range.ensures,
+    )
 
 pub returns : goal.returns
 unfolding records_verdict
 returns c =
-    let form = c.args.form in
     let image = c.args.image.now in
-    let rs = records image in
-    let size = length-up_to (record_at image) (record_count image) in
-    let counted = c.record_count-count.ensures in
-    let clear4 = refuse_at-none (numbered form 4) (λ k. form_wrong form (get_or rs k [])) (record_count image) (omega (arith, c.first_wrong_form-misformed.ensures, lowest_le (λ k. form_wrong form (get_or rs k [])) (record_count image), c.if-misformed-count.false)) in
-    let clear5 = refuse_at-none (numbered form 5) (order_wrong rs) (record_count image) (omega (arith, c.first_wrong_order-misplaced.ensures, lowest_le (order_wrong rs) (record_count image), c.if-misplaced-count.false)) in
-    let clear6 = refuse_at-none (numbered form 6) (λ k. range_wrong (get_or rs k [])) (record_count image) (omega (arith, c.first_wrong_range-outside.ensures, lowest_le (λ k. range_wrong (get_or rs k [])) (record_count image), c.if-outside-count.false)) in
-    rw (size, clear4, clear5, clear6) c.check_counts.ensures
+    rw (
+      passed c.args.form image 4 (omega arith) (λ k. form_wrong c.args.form (get_or (records image) k [])) _ c.in_default.ensures,
+      passed c.args.form image 5 (omega arith) (order_wrong (records image)) _ c.in_default-first_wrong_order.ensures,
+      passed c.args.form image 6 (omega arith) (λ k. range_wrong (get_or (records image) k [])) _ c.in_default-first_wrong_range.ensures,
+    )
+    c.check_counts.ensures

@@ -2,7 +2,7 @@
 use mathlib.Core.List.{List, []}
 use Prim.Native.Nat.{ℕ}
 use mathlib.Core.Bool.{true, false}
-use mathlib.Core.Path.{◌≡◌, refl, sym, ◌∙◌}
+use mathlib.Core.Path.{◌≡◌}
 use Rattle.rules.specs.declared.Form.TheVariants.{Table}
 use Rattle.rules.specs.declared.Verdict.{Verdict}
 use Rattle.rules.specs.Blocks.{records}
@@ -10,7 +10,7 @@ use Rattle.rules.specs.Refusals.{accepted, fine, or_else, frame_verdict, records
 use Rattle.rules.proofs.Judged.{is_refused}
 use Rattle.table.specs.Judged.{Judges, earlier_verdict}
 use Rattle.table.proofs.Counts.{records_few, records_held}
-use Rattle.table.proofs.Judging.{handed_on, judges_first, judges_second}
+use Rattle.table.proofs.Judging.{handed_on, judges_first}
 use Rattle.table.proofs.verdict.judge_table.Goals as goal
 
 module _ (image rows later : List ℕ) (told : Verdict) where
@@ -35,57 +35,49 @@ module _ (image rows later : List ℕ) (told : Verdict) where
   unfolding table_verdict
   by_links framed formed links = rw (← framed, ← formed) links
 
-pub returns-in_err-check_frame-clause-judges : goal.returns-in_err-check_frame-clause-judges
-returns-in_err-check_frame-clause-judges c =
-    let e = c.in_err-check_frame.field-0.0 in
-    by_frame c.args.image.now c.args.before.now [] _ (rw (← c.in_err-check_frame.ensures) (is_refused e)) (handed_on c.from_residual.result e c.from_residual.ensures.1 c.in_err-check_frame.ensures)
+pub returns-in_err-frame_verdict-clause-judges : goal.returns-in_err-frame_verdict-clause-judges
+returns-in_err-frame_verdict-clause-judges c =
+    let e = c.in_err-frame_verdict.field-0.0 in
+    by_frame c.args.image.now c.args.before.now [] _ (rw (← c.in_err-frame_verdict.ensures) (is_refused e)) (handed_on c.from_residual.result e c.from_residual.ensures.1 c.in_err-frame_verdict.ensures)
 
 pub check_records-requires : goal.check_records-requires
 check_records-requires c =
     let image = c.args.image.now in
-    let framed : accepted (frame_verdict Table image) ≡ true = rw (← c.in_ok-check_frame.ensures) in
+    let framed : accepted (frame_verdict Table image) ≡ true = rw (← c.in_ok-frame_verdict.ensures) in
     record { few = records_few Table image framed; held = records_held Table image framed }
 
 pub returns-in_err-check_records-clause-judges : goal.returns-in_err-check_records-clause-judges
 returns-in_err-check_records-clause-judges c =
     let e = c.in_err-check_records.field-0.0 in
-    by_records c.args.image.now c.args.before.now [] _ c.in_ok-check_frame.ensures (rw (← c.in_err-check_records.ensures) (is_refused e))
+    by_records c.args.image.now c.args.before.now [] _ c.in_ok-frame_verdict.ensures (rw (← c.in_err-check_records.ensures) (is_refused e))
     (handed_on c.from_residual-in_err-check_records.result e c.from_residual-in_err-check_records.ensures.1 c.in_err-check_records.ensures)
 
-pub check_links-requires : goal.check_links-requires
-check_links-requires c =
-    let image = c.args.image.now in
-    let framed : accepted (frame_verdict Table image) ≡ true = rw (← c.in_ok-check_frame.ensures) in
-    record { few = records_few Table image framed; image_value = rw (← c.in_ok-check_records.ensures); held = records_held Table image framed; before_value = c.requires }
+pub list_records-listing-requires : goal.list_records-listing-requires
+list_records-listing-requires c =
+    record { held = records_held Table c.args.image.now (rw (← c.in_ok-frame_verdict.ensures)); sound = rw (← c.in_ok-check_records.ensures) }
 
 pub returns-in_err-check_links-clause-judges : goal.returns-in_err-check_links-clause-judges
 returns-in_err-check_links-clause-judges c =
     let e = c.in_err-check_links.field-0.0 in
-    let links = c.check_links.ensures in
-    by_links c.args.image.now c.args.before.now c.check_links.new.before _ c.in_ok-check_frame.ensures c.in_ok-check_records.ensures
-    (record { verdict = handed_on c.from_residual-in_err-check_links.result e c.from_residual-in_err-check_links.ensures.1 c.in_err-check_links.ensures.verdict; before = links.before })
+    let told = handed_on c.from_residual-in_err-check_links.result e c.from_residual-in_err-check_links.ensures.1 c.in_err-check_links.ensures.verdict in
+    by_links c.args.image.now c.args.before.now c.check_links.new.before _ c.in_ok-frame_verdict.ensures c.in_ok-check_records.ensures
+    (rw (← c.list_records-listing.ensures) (record { verdict = told; before = c.check_links.ensures.before }))
 
 pub returns-clause-judges : goal.returns-clause-judges
 returns-clause-judges c =
-    by_links c.args.image.now c.args.before.now c.check_links.new.before _ c.in_ok-check_frame.ensures c.in_ok-check_records.ensures
-    (record { verdict = c.in_ok-check_links.ensures.verdict; before = c.check_links.ensures.before })
-
-pub count_kind-requires-clause-holds_records : goal.count_kind-requires-clause-holds_records
-count_kind-requires-clause-holds_records c = records_held Table c.args.image.now (rw (← c.in_ok-check_frame.ensures))
-
-pub count_kind-requires-2-clause-holds_records : goal.count_kind-requires-2-clause-holds_records
-count_kind-requires-2-clause-holds_records c = records_held Table c.args.image.now (rw (← c.in_ok-check_frame.ensures))
-
-pub count_kind-requires-3-clause-holds_records : goal.count_kind-requires-3-clause-holds_records
-count_kind-requires-3-clause-holds_records c = records_held Table c.args.image.now (rw (← c.in_ok-check_frame.ensures))
+    by_links c.args.image.now c.args.before.now c.check_links.new.before _ c.in_ok-frame_verdict.ensures c.in_ok-check_records.ensures
+    (rw (← c.list_records-listing.ensures) (record { verdict = c.in_ok-check_links.ensures.verdict; before = c.check_links.ensures.before }))
 
 pub invariant_of-result : goal.invariant_of-result
 unfolding table_verdict
 invariant_of-result c =
+    let listing = c.list_records-listing.result in
+    let same = c.list_records-listing.ensures in
+    let linked : fine ≡ link_refusal (records c.args.image.now) = rw (← same) c.in_ok-check_links.ensures.verdict in
     record {
       bytes = λ k. (c.type_inv.image k).fits;
-      accepted = rw (← c.in_ok-check_frame.ensures, ← c.in_ok-check_records.ensures, ← c.in_ok-check_links.ensures.verdict);
-      transactions_counted = c.count_kind.ensures.0;
-      tasks_counted = c.count_kind-2.ensures.0;
-      pairs_counted = c.count_kind-3.ensures.0;
+      accepted = rw (← c.in_ok-frame_verdict.ensures, ← c.in_ok-check_records.ensures, ← linked);
+      transactions_counted = rw (← same) listing.transactions_listed.counted;
+      tasks_counted = rw (← same) listing.tasks_listed.counted;
+      pairs_counted = rw (← same) listing.pairs_counted;
     }
