@@ -11,14 +11,6 @@ use rules::Form;
 // The bytes of a block's fifteen places.
 const PLACES_BYTES: usize = 480;
 
-// Copies all bytes of one part over the start of another.
-pub fn copy_bytes(from: &[u8], to: &mut [u8])
-    requires { length from.now ≤ length to.old }
-    ensures { to.new ≡ over from.now to.old }
-{
-    to[..from.len()].copy_from_slice(from);
-}
-
 // The eight bytes in front of the records of block b of total.
 fn header(form: Form, total: u8, b: u8, count: u8) -> [u8; 8]
     ensures { result ≡ header_of form total b count }

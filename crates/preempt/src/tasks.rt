@@ -71,22 +71,17 @@ pub fn task_place(table: &Table, id: u32) -> Option<usize>
     ensures place { unwrap_or result table.now.tasks ≡ place_of (tasks (records table.now.image.now)) id }
     ensures in_bounds { IfSome result (λ i. i < table.now.tasks) }
 {
-    let place = place_from(table.image, table.transactions, table.tasks, id);
-    if place == table.tasks {
-        return None;
-    }
-    Some(place)
+    place_from(table.image, table.transactions, table.tasks, id)
 }
 
 // The period of the transaction with this number, or 0 where it is not listed.
 fn period_in(table: &Table, number: u32) -> u32
     ensures { result ≡ period_in (records table.now.image.now) number }
 {
-    let place = place_from(table.image, 0, table.transactions, number);
-    if place == table.transactions {
-        return 0;
+    match place_from(table.image, 0, table.transactions, number) {
+        Some(place) => four_bytes(table.transaction_record(place), 8),
+        None => 0,
     }
-    four_bytes(table.transaction_record(place), 8)
 }
 
 // The period of the transaction of the task at a place.

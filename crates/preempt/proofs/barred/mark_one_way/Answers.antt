@@ -11,7 +11,7 @@ mark_pairs-requires c =
     let t = c.args.table.now in
     record {
       sound_records = sound_records t.image.now t.accepted;
-      directory = c.requires.tasks_listed;
+      tasks_listed = c.requires.tasks_listed;
       map = rw t.tasks_counted (beside_is_map (records t.image.now) c.args.rows.now (shape t).few_tasks c.requires.beside);
     }
 
