@@ -1,4 +1,4 @@
-// Operations on sets of places, and a place to index with.
+// Operations on sets of places, and what is asked of each place.
 ghost use Rattle.std.specs.Prelude.{◌≡◌, ℕ, Bool, true, ◌≤◌, ◌<◌, length};
 ghost use Rattle.std.specs.Int.Bits.{bit_or};
 ghost use Rattle.rules.specs.Preempt.{row_from, bit_at};
