@@ -5,7 +5,10 @@ ghost use Rattle.rules.specs.Records.{task_count};
 ghost use Rattle.rules.specs.Refusals.{accepted, table_verdict};
 ghost use Rattle.table.specs.Precedence.{before_map};
 
-use crate::{digest, print, space};
+use crate::case::Case;
+use crate::space::{IMAGE_BYTES, ROWS, filled, read_bytes, read_numbers};
+use crate::stop::Stop;
+use crate::{digest, print};
 use reason::call::find_reason;
 use reason::places::reason_at;
 use reason::told::number_of;
@@ -14,6 +17,9 @@ use std::io;
 use std::io::Read;
 use table::count::count_kind;
 use table::judge_table;
+
+// The pairs of 64 places.
+const PAIRS: usize = 4096;
 
 // What one half of a question is counted in.
 const HALF: u64 = 4_294_967_296;
@@ -49,28 +55,15 @@ fn set_all(image: &[u8], told: &mut [u8]) -> Verdict
     verdict
 }
 
-// How many of the told are this one.
-fn count_of(told: &[u8], number: u8) -> u64 {
-    let mut found: u64 = 0;
-    for one in told {
-        if *one == number {
-            found += 1;
-        }
-    }
-    found
-}
-
 // The verdict, the digest of all pairs' reasons, and how many pairs have each.
-fn answer_all(out: &impl Print, image: &[u8], told: &mut [u8]) -> io::Result<()>
-    requires { 4096 ≤ length told.old }
-{
-    let verdict = set_all(image, told);
-    print::letter(out, b'W')?;
-    print::number(out, verdict.number as u64)?;
-    print::number(out, verdict.place as u64)?;
-    print::number(out, digest::of_bytes(told))?;
+fn answer_all(out: &impl Print, image: &[u8]) -> io::Result<()> {
+    let mut told = filled::<u8, PAIRS>(0);
+    let verdict = set_all(image, &mut told);
+    print!(out; "W")?;
+    print::verdict(out, verdict)?;
+    print!(out; " {}", digest::of_bytes(&told))?;
     for number in 1..=6 {
-        print::number(out, count_of(told, number))?;
+        print!(out; " {}", told.iter().filter(|one| **one == number).count())?;
     }
     Ok(())
 }
@@ -79,55 +72,19 @@ fn answer_all(out: &impl Print, image: &[u8], told: &mut [u8]) -> io::Result<()>
 fn answer_questions(out: &impl Print, image: &[u8], questions: &[u64]) -> io::Result<()> {
     for question in questions {
         let found = find_reason(image, (*question % HALF) as u32, (*question / HALF) as u32);
-        print::bar(out)?;
-        print::number(out, found.number as u64)?;
-        print::number(out, found.place as u64)?;
-        print::number(out, found.reason as u64)?;
+        print!(out; " | {} {} {}", found.number, found.place, found.reason)?;
     }
     Ok(())
 }
 
-// Reads image and questions into the spaces and answers, or says that the stream is broken.
-fn answer_in(
-    input: &mut impl Read,
-    out: &impl Print,
-    image_bytes: usize,
-    question_count: usize,
-    image: &mut [u8],
-    questions: &mut [u64],
-    told: &mut [u8],
-) -> io::Result<bool>
-    requires { 4096 ≤ length told.old }
-{
-    if space::fill(input, image, image_bytes)? < image_bytes {
-        return Ok(false);
-    }
-    if space::fill_rows(input, questions, question_count)? < question_count {
-        return Ok(false);
-    }
-    answer_all(out, &image[..image_bytes], told)?;
-    answer_questions(out, &image[..image_bytes], &questions[..question_count])?;
-    print::line_end(out)?;
-    Ok(true)
-}
-
-// Answers one case, or says that the stream is broken.
-pub fn answer(
-    input: &mut impl Read,
-    out: &impl Print,
-    image_bytes: usize,
-    question_count: usize,
-) -> io::Result<bool> {
-    let mut image = space::image();
-    let mut questions = space::rows();
-    let mut told = space::reasons();
-    answer_in(
-        input,
-        out,
-        image_bytes,
-        question_count,
-        &mut image,
-        &mut questions,
-        &mut told,
-    )
+// Answers one case.
+pub fn answer(input: &mut impl Read, out: &impl Print, case: &Case) -> Result<(), Stop> {
+    let mut image_space = filled::<u8, IMAGE_BYTES>(0);
+    let mut question_space = filled::<u64, ROWS>(0);
+    let image = read_bytes(input, &mut image_space, case.image_bytes)?;
+    let questions = read_numbers(input, &mut question_space, case.read_rows)?;
+    answer_all(out, image)?;
+    answer_questions(out, image, questions)?;
+    println!(out;)?;
+    Ok(())
 }

@@ -1,7 +1,7 @@
 -- The count of records met in turn, one record further: the record of an image is that of the list of its records.
 use Prim.Native.Nat.{ℕ, zero, suc, ◌+◌, ◌-◌, ◌*◌, ◌≤◌, ◌<◌, ◌^◌}
 use mathlib.Core.List.{List, [], ◌∷◌}
-use mathlib.Core.Bool.{cond, ◌&&◌}
+use mathlib.Core.Bool.{cond}
 use mathlib.Core.Path.{◌≡◌, refl, ap, sym, ◌∙◌}
 use native.Mathlib.Numerals.{add-one}
 use native.Mathlib.Omega.{arith}
@@ -11,10 +11,9 @@ use Rattle.std.proofs.lemmas.List.{drop_more}
 use Rattle.std.proofs.Common.{nat_eq}
 use Rattle.std.specs.Cmp.Lexicographic.{pointwise}
 use Rattle.rules.specs.Numbers.{up_to}
-use lib.Dec.{ltb}
 use Rattle.rules.specs.Blocks.{record_at, record_count, records, block_count}
 use Rattle.rules.specs.Patches.{same}
-use Rattle.rules.proofs.Numbers.{either, length-up_to, get_or-up_to}
+use Rattle.rules.proofs.Numbers.{length-up_to, get_or-up_to}
 use Rattle.image.specs.InTurn.{records_left, past, met_among}
 
 -- a usize holds the number of records of an image whose length it holds
@@ -31,17 +30,6 @@ module _ (image fields : List ℕ) (k : ℕ) where
   pub past_inside : k < record_count image → past (records image) fields k ≡ cond (same (record_at image k) fields) (k + 1) k
   unfolding past
   past_inside h = rw (length-up_to (record_at image) (record_count image), lt-ltb k (record_count image) h, get_or-up_to (record_at image) (record_count image) k [] h)
-
--- the number counts up by at most one
-pub past_le : (rs : List (List ℕ)) (r : List ℕ) (k : ℕ) → past rs r k ≤ k + 1
-unfolding past
-past_le rs r k = either (ltb k (length rs) && same (get_or rs k []) r) (λ t. rw t (omega arith)) (λ t. rw t (omega arith))
-
--- so at most as many are met as were passed
-pub met_le : (rs ps : List (List ℕ)) (n : ℕ) → met_among rs ps n ≤ n
-unfolding met_among
-met_le rs ps zero = omega arith
-met_le rs ps (suc n) = omega (arith, past_le ps (get_or rs n []) (met_among rs ps n), met_le rs ps n)
 
 -- how many records are met where so many were, and these are left
 abbrev pub met_from : List (List ℕ) → List (List ℕ) → ℕ → ℕ
@@ -68,11 +56,13 @@ module _ (image other : List ℕ) where
 
 -- what is left of an image's records, one record further and at the end
 module _ (image : List ℕ) (next count : ℕ) where
+  -- the next record comes first
   pub left_more : next < count → records_left image next count ≡ record_at image next ∷ records_left image (next + 1) count
   left_more inside =
       drop_more (up_to (record_at image) count) next [] (omega (arith, length-up_to (record_at image) count))
       ∙ rw (get_or-up_to (record_at image) count next [] inside)
 
+  -- at the end none is left
   pub left_none : count ≤ next → records_left image next count ≡ []
   left_none past = drop_of_length-le (up_to (record_at image) count) {i = next} (omega (arith, length-up_to (record_at image) count))
 

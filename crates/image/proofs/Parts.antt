@@ -4,15 +4,20 @@ use mathlib.Core.List.{List, []}
 use mathlib.Core.Path.{◌≡◌, sym, ◌∙◌}
 use native.Mathlib.Omega.{arith}
 use borrow.Author.Tests.{leb-true, leb-false}
-use lib.ListN.{length, take, drop, length-drop, drop_of_length-le}
+use lib.ListN.{length, take, drop, length-drop, length-take, drop_of_length-le}
 use lib.Seq.{take-nil, take_all}
 use lib.Dec.{leb}
 use Rattle.rules.proofs.Numbers.{either}
 
+-- its end less its start
 pub part_size : (s : List ℕ) (start size : ℕ) → take ((start + size) - start) (drop start s) ≡ take size (drop start s)
 part_size s start size =
     let e : (start + size) - start ≡ size = omega arith in
     rw e
+
+-- a part that lies within a list is as long as it says
+pub part_length : (s : List ℕ) (start size : ℕ) → start + size ≤ length s → length (take size (drop start s)) ≡ size
+part_length s start size h = simp (length-take, length-drop) (omega arith)
 
 -- past the end a part is empty
 pub part_past : (s : List ℕ) (start size : ℕ) → length s ≤ start → take size (drop start s) ≡ []

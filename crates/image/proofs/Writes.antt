@@ -1,11 +1,11 @@
 -- What writes into a list of bytes leave there.
-use Prim.Native.Nat.{ℕ, suc, ◌+◌, ◌*◌, ◌-◌, ◌/◌, ◌%◌, ◌≤◌, ◌<◌, min}
+use Prim.Native.Nat.{ℕ, ◌+◌, ◌*◌, ◌-◌, ◌/◌, ◌%◌, ◌≤◌, ◌<◌, min}
 use mathlib.Core.List.{List, [], ◌∷◌, ◌++◌, append-nil, append_assoc}
 use mathlib.Core.Path.{◌≡◌, refl, sym, ap, ◌∙◌}
 use native.Mathlib.Omega.{arith}
 use borrow.Rule.Slice.PartMut.{put_mid}
-use lib.ListN.{length, get_or, take, drop, set, replicate, length-append, length-take, length-drop, length-replicate, drop_of_length-le}
-use lib.Seq.{sets, sets-eq, paste-suc, get_or-take, take_at, drop_at, drop-drop, drop-length}
+use lib.ListN.{length, take, drop, replicate, length-append, length-drop, length-replicate, drop_of_length-le}
+use lib.Seq.{get_or-take, take_at, drop_at, drop-drop}
 use Rattle.rules.specs.declared.Form.{Form}
 use Rattle.rules.specs.declared.Form.TheVariants.{Table, Patch}
 use Rattle.rules.specs.Numbers.{up_to}
@@ -15,17 +15,10 @@ use Rattle.rules.proofs.Numbers.{length-up_to, up_to_ext, up_to_step}
 use Rattle.rules.proofs.Image.Parts.{Records, sized_up_to, length-joined, joined-append, joined_parts, part_up_to}
 use Rattle.rules.proofs.Image.Block.{check_front}
 use Rattle.rules.proofs.Image.Written.{records_of, length_records_of, length-block_of}
-use Rattle.image.specs.Write.{header_of, body_bytes}
-
--- one more byte copied over the start of a list
-pub copied_more : (s d : List ℕ) (k : ℕ) → k < length s → length s ≤ length d
-    → set (take k s ++ drop k d) k (get_or s k 0) ≡ take (k + 1) s ++ drop (k + 1) d
-copied_more s d k inside fits =
-    let here : 0 + k ≡ k = omega arith in
-    let next : 0 + suc k ≡ suc k = omega arith in
-    let more : k + 1 ≡ suc k = omega arith in
-    let step = paste-suc {A = ℕ} d 0 s k 0 (omega arith) inside in
-    rw more (rw (here, next) at step)
+use Rattle.std.specs.Int.{to_le_bytes}
+use Rattle.std.proofs.Common.{w16}
+use Rattle.image.proofs.Parts.{part_length}
+use Rattle.image.specs.Write.{header_of, body_behind, body_bytes}
 
 -- a part put behind the values that are written already
 put-over : (done new l : List ℕ) (a k : ℕ) → length done ≡ a → length new ≡ k → put_mid a k (over done l) new ≡ over (done ++ new) l
@@ -48,61 +41,49 @@ length-mark Patch = refl
 length_header : (form : Form) (total b count : ℕ) → length (header_of form total b count) ≡ 8
 length_header form total b count = rw (length-append, length-mark)
 
--- a part that lies within a list is as long as it says
-length_part : (s : List ℕ) (start size : ℕ) → start + size ≤ length s → length (take size (drop start s)) ≡ size
-length_part s start size h = simp (length-take, length-drop) (omega arith)
-
--- block b of total with the records of these bytes
-module _ (form : Form) (total b : ℕ) (flat : List ℕ) (few : length flat ≤ 480) where
+-- a block with this header and the records of these bytes
+module _ (header flat : List ℕ) (eight : length header ≡ 8) (few : length flat ≤ 480) where
   -- its body is 510 bytes long
-  pub length_body : length (body_bytes form total b flat) ≡ 510
-  length_body =
-      rw (
-        length-append (header_of form total b (length flat / 32)) (flat ++ replicate (502 - length flat) 0),
-        length_header,
-        length-append,
-        length-replicate,
-      ) (omega arith)
+  length_body : length (body_behind header flat) ≡ 510
+  length_body = rw (length-append header (flat ++ replicate (502 - length flat) 0), length-append, length-replicate) (omega arith)
 
   -- where its records end
   abbrev end : ℕ
   end = 8 + length flat
 
-  -- the block with bytes copied behind its header
-  abbrev behind_header : List ℕ → List ℕ → List ℕ
-  behind_header headed copied = put_mid 8 (end - 8) headed copied
-
   -- header, records and zeros, written one after another, are its body
-  pub body_written : (block headed copied zeros : List ℕ)
-      → headed ≡ over (header_of form total b (length flat / 32)) block
-      → length headed ≡ 512
-      → copied ≡ flat
-      → length (behind_header headed copied) ≡ 512
-      → zeros ≡ replicate (length (take (510 - end) (drop end (behind_header headed copied)))) 0
-      → put_mid end (510 - end) (behind_header headed copied) zeros ≡ over (body_bytes form total b flat) block
-  body_written block headed copied zeros head long copy longer zero =
-      let header = header_of form total b (length flat / 32) in
-      let eight = length_header form total b (length flat / 32) in
+  pub body_written : (block headed copied zeros : List ℕ) → length block ≡ 512 → headed ≡ header → copied ≡ flat
+      → zeros ≡ replicate (length (take (510 - end) (drop end (put_mid 8 (end - 8) (headed ++ drop 8 block) copied)))) 0
+      → put_mid end (510 - end) (put_mid 8 (end - 8) (headed ++ drop 8 block) copied) zeros ≡ over (body_behind header flat) block
+  body_written block headed copied zeros long head copy zero =
       let all : end - 8 ≡ length flat = omega arith in
       let rest : 510 - end ≡ 502 - length flat = omega arith in
-      let fill : zeros ≡ replicate (502 - length flat) 0 = zero ∙ rw (length_part (behind_header headed copied) end (510 - end) (omega arith), rest) in
-      let first : behind_header headed copied ≡ over (header ++ flat) block = rw (head, copy) (put-over header flat block 8 (end - 8) eight (sym all)) in
+      let start : headed ++ drop 8 block ≡ over header block = rw (head, eight) in
+      let first : put_mid 8 (end - 8) (headed ++ drop 8 block) copied ≡ over (header ++ flat) block = rw (start, copy) (put-over header flat block 8 (end - 8) eight (sym all)) in
+      let held : length (over (header ++ flat) block) ≡ 512 = simp (length-append, length-drop) (omega arith) in
+      let fill : zeros ≡ replicate (502 - length flat) 0 = zero ∙ rw (first, part_length (over (header ++ flat) block) end (510 - end) (omega arith), rest) in
       rw (first, fill)
       (put-over (header ++ flat) (replicate (502 - length flat) 0) block end (510 - end) (rw (length-append, eight)) (rw (length-replicate, rest))
       ∙ rw (append_assoc header flat (replicate (502 - length flat) 0)))
 
+  -- written over with that, and the check behind it, it is whole
+  pub block_written : (block written checked : List ℕ) → written ≡ over (body_behind header flat) block → checked ≡ with_check (take 510 written)
+      → checked ≡ with_check (body_behind header flat)
+  block_written block written checked body check =
+      check ∙ rw (body, take_at (body_behind header flat) (drop (length (body_behind header flat)) block) 510 length_body)
+
 -- the check of a block written into its last two bytes
-pub check_written : (block : List ℕ) → length block ≡ 512
-    → set (set block 510 (check_of block % 256)) 511 (check_of block / 256) ≡ with_check (take 510 block)
-check_written block long =
-    let same : check_of (take 510 block) ≡ check_of block = check_front (take 510 block) block (λ i l. get_or-take 510 block i 0 l) in
-    rw same
-    (sets-eq (check_of block % 256 ∷ check_of block / 256 ∷ []) block 510 (omega arith)
-    ∙ rw (drop_of_length-le block {i = 512} (omega arith), append-nil))
+pub check_written : (block bytes : List ℕ) (check : ℕ) → length block ≡ 512 → check ≡ check_of block → check < 65521 → bytes ≡ to_le_bytes w16 check
+    → put_mid 510 (length block - 510) block bytes ≡ with_check (take 510 block)
+check_written block bytes check long right small written =
+    let same : check_of (take 510 block) ≡ check = check_front (take 510 block) block (λ i l. get_or-take 510 block i 0 l) ∙ sym right in
+    let high : check / 256 % 256 ≡ check / 256 = omega arith in
+    let nothing : drop (length block - 510) (drop 510 block) ≡ [] = drop_of_length-le (drop 510 block) {i = length block - 510} (omega (arith, length-drop 510 block)) in
+    rw (same, written, high, nothing)
 
 -- records that lie one after another are 32 bytes each
 cut_sized : (flat : List ℕ) → Records (cut flat)
-cut_sized flat = sized_up_to 32 (λ k. take 32 (drop (32 * k) flat)) (length flat / 32) (λ k l. length_part flat (32 * k) 32 (omega arith))
+cut_sized flat = sized_up_to 32 (λ k. take 32 (drop (32 * k) flat)) (length flat / 32) (λ k l. part_length flat (32 * k) 32 (omega arith))
 
 -- the records of block b, where all records lie one after another
 module _ (flat : List ℕ) (b : ℕ) where
@@ -130,7 +111,7 @@ unfolding block_of
 block_cut form flat b whole inside =
     let w = min (480 * b + 480) (length flat) - 480 * b in
     let n = min 15 (length flat / 32 - 15 * b) in
-    let long : length (take w (drop (480 * b) flat)) ≡ w = length_part flat (480 * b) w (omega arith) in
+    let long : length (take w (drop (480 * b) flat)) ≡ w = part_length flat (480 * b) w (omega arith) in
     let few : w ≡ 32 * n = omega arith in
     let count : w / 32 ≡ n = omega arith in
     rw (

@@ -7,6 +7,10 @@ use Rattle.rules.specs.Blocks.{mark}
 abbrev pub header_of : Form → ℕ → ℕ → ℕ → List ℕ
 header_of form total b count = mark form ++ (b ∷ total ∷ count ∷ 0 ∷ 0 ∷ 0 ∷ [])
 
--- the first 510 bytes of a block that holds the records of these bytes
+-- the first 510 bytes of a block that has this header and holds the records of these bytes
+abbrev pub body_behind : List ℕ → List ℕ → List ℕ
+body_behind header flat = header ++ (flat ++ replicate (502 - length flat) 0)
+
+-- the same, by the header's parts
 abbrev pub body_bytes : Form → ℕ → ℕ → List ℕ → List ℕ
-body_bytes form total b flat = header_of form total b (length flat / 32) ++ (flat ++ replicate (502 - length flat) 0)
+body_bytes form total b flat = body_behind (header_of form total b (length flat / 32)) flat

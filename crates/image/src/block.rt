@@ -10,12 +10,13 @@ use rules::Form;
 // the last sum less all of them has it i + 1 times: two additions for each byte, and no product.
 pub fn check_of(block: &[u8]) -> u32
     requires { 510 ≤ length block.now }
-    ensures { (result ≡ check_of block.now) × (result < 65521) }
+    ensures right { result ≡ check_of block.now }
+    ensures in_two_bytes { result < 65521 }
 {
     let mut sum: u32 = 0;
     let mut sums: u32 = 0;
-    for i in 0..510 {
-        sum += u32::from(block[i]);
+    for byte in &block[..510] {
+        sum += u32::from(*byte);
         sums += sum;
     }
     (511 * sum - sums) % 65521

@@ -6,11 +6,7 @@ ghost use Rattle.rules.specs.Numbers.{le2, le4, blank};
 pub fn byte_at(s: &[u8], at: usize) -> u32
     ensures { (result ≡ get_or s.now at 0) × (result < 256) }
 {
-    if at < s.len() {
-        u32::from(s[at])
-    } else {
-        0
-    }
+    if at < s.len() { u32::from(s[at]) } else { 0 }
 }
 
 // The little-endian number of two bytes at a place.

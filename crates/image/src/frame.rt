@@ -1,28 +1,12 @@
 // The verdict on an image's blocks: 1 to 3 for a table, 21 to 23 for a patch.
 ghost use Rattle.std.specs.Prelude.{◌≡◌, ◌≤◌, ◌<◌, length};
 ghost use Rattle.rules.specs.Blocks.{most_blocks, block_count, block_at, length_wrong, check_wrong, header_wrong};
-ghost use Rattle.rules.specs.Refusals.{refusal as Refusals·refusal, numbered, frame_verdict};
+ghost use Rattle.rules.specs.Refusals.{frame_verdict};
 ghost use Rattle.rules.specs.Told.{judged};
 ghost use Rattle.image.specs.First.{first};
 
 use crate::block::{is_check_wrong, is_header_wrong};
-use rules::{Fault, Form, Refusal, Verdict};
-
-// A refusal by its table number and place: a patch's numbers are 20 higher.
-pub fn refusal(form: Form, number: u8, place: u32) -> Verdict
-    ensures { result ≡ Refusals·refusal (numbered form number) place }
-{
-    match form {
-        Form::Table => Verdict {
-            number: number as u32,
-            place,
-        },
-        Form::Patch => Verdict {
-            number: 20 + number as u32,
-            place,
-        },
-    }
-}
+use rules::{Fault, Form, Refusal};
 
 // The most blocks that an image of the form may have.
 pub fn most_blocks(form: Form) -> usize
@@ -45,9 +29,11 @@ fn is_length_wrong(form: Form, image: &[u8]) -> bool
 }
 
 // Block b of an image, as a part of it.
+#[tactic(auto, using(crate::proofs::Parts::part_size, crate::proofs::Parts::part_length))]
 fn block_part(image: &[u8], b: usize) -> &[u8]
     requires { b < block_count image.now }
-    ensures { (result.now ≡ block_at image.now b) × (length result.now ≡ 512) }
+    ensures right { result.now ≡ block_at image.now b }
+    ensures whole { length result.now ≡ 512 }
 {
     let start = rules::BLOCK_BYTES * b;
     let end = start + rules::BLOCK_BYTES;

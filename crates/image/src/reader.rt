@@ -66,10 +66,7 @@ fn is_record(image: &[u8], k: usize, fields: &[u8]) -> bool
 pub fn number_past(image: &[u8], k: usize, fields: &[u8]) -> usize
     ensures { result ≡ past (records image.now) fields.now k }
 {
-    if is_past(image, k) {
-        return k;
-    }
-    if is_record(image, k, fields) {
+    if !is_past(image, k) && is_record(image, k, fields) {
         k + 1
     } else {
         k

@@ -8,11 +8,7 @@ use crate::bytes::byte_at;
 pub fn record_count(image: &[u8]) -> usize
     ensures { result ≡ record_count image.now }
 {
-    let total = image.len() / rules::BLOCK_BYTES;
-    if total == 0 {
-        return byte_at(image, 4) as usize;
-    }
-    let full = total - 1;
+    let full = (image.len() / rules::BLOCK_BYTES).saturating_sub(1);
     let held = byte_at(image, rules::BLOCK_BYTES * full + 4) as usize;
     rules::RECORDS_PER_BLOCK * full + held
 }

@@ -2,7 +2,7 @@
 ghost use Rattle.std.specs.Prelude.{◌≡◌, ◌*◌, ◌%◌, ◌/◌, ◌≤◌, ◌<◌, length, take, unwrap_or, IfSome};
 ghost use Rattle.rules.specs.Blocks.{mark, blocks_for, with_check, image_of};
 ghost use Rattle.rules.specs.Calls.{over, cut, blocks_of, written_length, written_room};
-ghost use Rattle.image.specs.Write.{header_of, body_bytes};
+ghost use Rattle.image.specs.Write.{header_of, body_behind};
 
 use crate::block::{check_of, mark};
 use crate::frame::most_blocks;
@@ -11,72 +11,62 @@ use rules::Form;
 // The bytes of a block's fifteen places.
 const PLACES_BYTES: usize = 480;
 
-// Copies all bytes of one part over the start of another.
-pub fn copy_bytes(from: &[u8], to: &mut [u8])
-    requires { length from.now ≤ length to.old }
-    ensures { to.new ≡ over from.now to.old }
-{
-    to[..from.len()].copy_from_slice(from);
-}
-
-// Writes the header of block b of total over the start of the block.
-fn write_header(form: Form, total: u8, b: u8, count: u8, block: &mut [u8])
-    requires { 8 ≤ length block.old }
-    ensures { block.new ≡ over (header_of form total b count) block.old }
+// The eight bytes in front of the records of block b of total.
+fn header(form: Form, total: u8, b: u8, count: u8) -> [u8; 8]
+    ensures { result ≡ header_of form total b count }
 {
     let [first, second] = mark(form);
-    block[..8].copy_from_slice(&[first, second, b, total, count, 0, 0, 0]);
+    [first, second, b, total, count, 0, 0, 0]
 }
 
-// Writes header, records and zero fill of block b of total: all but the check.
-fn write_body(form: Form, total: u8, b: u8, records: &[u8], block: &mut [u8])
-    requires { (length records.now ≤ 480) × (length block.old ≡ 512) }
-    ensures { block.new ≡ over (body_bytes form total b records.now) block.old }
+// Writes header, records and zero fill of a block: all but the check.
+fn write_body(header: &[u8; 8], records: &[u8], block: &mut [u8])
+    requires few_records { length records.now ≤ 480 }
+    requires one_block { length block.old ≡ 512 }
+    ensures { block.new ≡ over (body_behind header.now records.now) block.old }
 {
-    let count = (records.len() / rules::RECORD_BYTES) as u8;
-    write_header(form, total, b, count, block);
     let end = 8 + records.len();
+    block[..8].copy_from_slice(header);
     block[8..end].copy_from_slice(records);
     block[end..510].fill(0);
 }
 
 // Writes the check that the first 510 bytes call for into the last two.
-#[tactic(auto, using(crate::proofs::Writes::check_written))]
 fn write_check(block: &mut [u8])
     requires { length block.old ≡ 512 }
     ensures { block.new ≡ with_check (take 510 block.old) }
 {
-    let check = check_of(block);
-    block[510] = (check % 256) as u8;
-    block[511] = (check / 256) as u8;
+    let check = check_of(block) as u16;
+    block[510..].copy_from_slice(&check.to_le_bytes());
 }
 
-// Writes the whole of block b of total.
-fn write_block(form: Form, total: u8, b: u8, records: &[u8], block: &mut [u8])
-    requires { (length records.now ≤ 480) × (length block.old ≡ 512) }
-    ensures { block.new ≡ with_check (body_bytes form total b records.now) }
+// Writes a whole block.
+fn write_block(header: &[u8; 8], records: &[u8], block: &mut [u8])
+    requires few_records { length records.now ≤ 480 }
+    requires one_block { length block.old ≡ 512 }
+    ensures { block.new ≡ with_check (body_behind header.now records.now) }
 {
-    write_body(form, total, b, records, block);
+    write_body(header, records, block);
     write_check(block);
 }
 
 // Writes the blocks of an image that has room, one after another.
 fn write_blocks(form: Form, records: &[u8], total: usize, room: &mut [u8])
-    requires { (length records.now % 32 ≡ 0) × ((total ≡ blocks_of records.now) × ((total ≤ 45) × (512 * total ≤ length room.old))) }
+    requires whole_records { length records.now % 32 ≡ 0 }
+    requires all_blocks { total ≡ blocks_of records.now }
+    requires few_blocks { total ≤ 45 }
+    requires in_bounds { 512 * total ≤ length room.old }
     ensures { room.new ≡ over (image_of form (cut records.now)) room.old }
 {
     for b in 0..total {
         let from = PLACES_BYTES * b;
         let to = records.len().min(from + PLACES_BYTES);
+        let held = &records[from..to];
+        let count = held.len() / rules::RECORD_BYTES;
         let start = rules::BLOCK_BYTES * b;
         let end = start + rules::BLOCK_BYTES;
-        write_block(
-            form,
-            total as u8,
-            b as u8,
-            &records[from..to],
-            &mut room[start..end],
-        );
+        let front = header(form, total as u8, b as u8, count as u8);
+        write_block(&front, held, &mut room[start..end]);
     }
 }
 
@@ -84,8 +74,8 @@ fn write_blocks(form: Form, records: &[u8], total: usize, room: &mut [u8])
 fn blocks_of(bytes: usize) -> usize
     ensures { result ≡ blocks_for (bytes / 32) }
 {
-    let blocks = (bytes / rules::RECORD_BYTES + 14) / rules::RECORDS_PER_BLOCK;
-    if blocks == 0 { 1 } else { blocks }
+    let records = bytes / rules::RECORD_BYTES;
+    records.div_ceil(rules::RECORDS_PER_BLOCK).max(1)
 }
 
 // Writes the image of the records that lie one after another, 32 bytes each, over the start of the room, and answers

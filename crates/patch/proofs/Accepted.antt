@@ -7,11 +7,12 @@ use native.Mathlib.Omega.{arith}
 use borrow.Author.Tests.{eqb-true, eqb-false, eq-eqb, ltb-true, ltb-false, not-true, not-false}
 use lib.ListN.{length, get_or}
 use lib.Dec.{eqb, ltb}
-use Rattle.rules.specs.declared.Form.TheVariants.{Table, Patch}
-use Rattle.rules.specs.Numbers.{Bytes, lowest, sum_to, count_to, between}
+use Rattle.rules.specs.declared.Form.TheVariants.{Table as Form·Table, Patch as Form·Patch}
+use Rattle.table.specs.declared.accepted.Table.{Table}
+use Rattle.table.specs.declared.accepted.Patch.{Patch}
+use Rattle.rules.specs.Numbers.{lowest, sum_to, count_to, between}
 use Rattle.rules.specs.Blocks.{records, record_at, record_count}
 use Rattle.rules.specs.Records.{kind_of, way_of, image_key, form_wrong}
-use Rattle.rules.specs.Refusals.{accepted, table_verdict, patch_verdict}
 use Rattle.rules.proofs.Numbers.{either, length-up_to, get_or-up_to, lowest_passes, lowest_below}
 use Rattle.rules.proofs.Tests.{neither_first}
 use Rattle.rules.proofs.Image.Frame.{frame_accepted, frame_of}
@@ -19,7 +20,7 @@ use Rattle.rules.proofs.Table.Ranges.{between_least, between_most}
 use Rattle.rules.proofs.Table.Order.{Rises}
 use Rattle.rules.proofs.Table.Shape.{transactions_counted, tasks_counted, pairs_counted, not_too_many, faultless_order, records_bytes}
 use Rattle.rules.proofs.Patch.Valid.{valid_of}
-use Rattle.rules.proofs.Patch.WellFormed.{well_formed_of, well_formed_rises, well_formed_ways, well_formed_parts}
+use Rattle.rules.proofs.Patch.WellFormed.{WellFormed, well_formed_of, well_formed_rises, well_formed_ways, well_formed_parts}
 use Rattle.patch.specs.Parts.{is_put_in}
 use Rattle.patch.specs.Merge.{PutsFrom}
 
@@ -36,57 +37,61 @@ pub read_is : (image : List ℕ) (k : ℕ) (fields : List ℕ) → k < record_co
 read_is image k fields h e = e ∙ sym (get_or-up_to (record_at image) (record_count image) k [] h)
 
 -- the kind of a patch record is 1, 2 or 3
-known_patch_kind : (r : List ℕ) → form_wrong Patch r ≡ false → (1 ≤ kind_of r) × (kind_of r ≤ 3)
+known_patch_kind : (r : List ℕ) → form_wrong Form·Patch r ≡ false → (1 ≤ kind_of r) × (kind_of r ≤ 3)
 unfolding form_wrong
 known_patch_kind r right =
     let known = not-false (between 1 (kind_of r) 3) (neither_first (not (between 1 (kind_of r) 3)) _ right) in
     (between_least 1 (kind_of r) 3 known, between_most 1 (kind_of r) 3 known)
 
--- an accepted table has at most 23 blocks
-pub table_long : (image : List ℕ) → accepted (table_verdict image) ≡ true → length image ≤ 11776
-table_long image table =
-    let f = frame_of Table image (frame_accepted Table image table) in
-    omega (arith, f.whole, f.not_too_many)
+-- an accepted table
+module _ (table : Table) where
+  -- has at most 23 blocks
+  pub table_long : length table.image.now ≤ 11776
+  table_long =
+      let f = frame_of Form·Table table.image.now (frame_accepted Form·Table table.image.now table.accepted) in
+      omega (arith, f.whole, f.not_too_many)
 
--- the records of an accepted table are in the image's order
-pub base_rises : (base : List ℕ) → accepted (table_verdict base) ≡ true → Rises image_key (records base)
-base_rises base table = faultless_order Table (records base) (valid_of base table).faultless
+  -- and its records are in the image's order
+  pub base_rises : Rises image_key (records table.image.now)
+  base_rises = faultless_order Form·Table (records table.image.now) (valid_of table.image.now table.accepted).faultless
 
 -- an accepted patch
-module _ (patch : List ℕ) (right : accepted (patch_verdict patch) ≡ true) where
-  -- its records are in the image's order
-  pub patch_rises : Rises image_key (records patch)
-  patch_rises = well_formed_rises (records patch) (well_formed_of patch right)
+module _ (patch : Patch) where
+  abbrev ps : List (List ℕ)
+  ps = records patch.image.now
+
+  -- its records are well formed
+  pub formed : WellFormed ps
+  formed = well_formed_of patch.image.now patch.accepted
+
+  -- they are in the image's order
+  pub patch_rises : Rises image_key ps
+  patch_rises = well_formed_rises ps formed
 
   -- each is taken out or put in
-  pub patch_ways : (k : ℕ) → k < length (records patch) → way_of (get_or (records patch) k []) ≤ 1
-  patch_ways = well_formed_ways (records patch) (well_formed_of patch right)
+  pub patch_ways : (k : ℕ) → k < length ps → way_of (get_or ps k []) ≤ 1
+  patch_ways = well_formed_ways ps formed
 
   -- and all that are taken out come first
-  pub ways_rise : Bytes patch → (j k : ℕ) → j < k → k < length (records patch) → way_of (get_or (records patch) j []) ≤ way_of (get_or (records patch) k [])
-  ways_rise bytes = well_formed_parts (records patch) (well_formed_of patch right) (records_bytes patch bytes)
+  pub ways_rise : (j k : ℕ) → j < k → k < length ps → way_of (get_or ps j []) ≤ way_of (get_or ps k [])
+  ways_rise = well_formed_parts ps formed (records_bytes patch.image.now patch.bytes)
 
   -- so from the first record that is put in, all are
-  pub puts_from : Bytes patch → (m : ℕ) → m ≡ lowest (is_put_in (records patch)) (length (records patch))
-      → PutsFrom (records patch) m
-  puts_from bytes m e k h l =
-      let ps = records patch in
+  pub puts_from : (m : ℕ) → m ≡ lowest (is_put_in ps) (length ps) → PutsFrom ps m
+  puts_from m e k h l =
       let here = lowest_passes (is_put_in ps) (length ps) (omega arith) in
       let other : is_put_in ps m ≡ true = rw e here in
       let some = eqb-false (way_of (get_or ps m [])) 0 (not-true (eqb (way_of (get_or ps m [])) 0) other) in
       either (ltb m k)
-      (λ t. omega (arith, ways_rise bytes m k (ltb-true m k t) l, patch_ways k l))
+      (λ t. omega (arith, ways_rise m k (ltb-true m k t) l, patch_ways k l))
       (λ t.
       let same : k ≡ m = omega (arith, ltb-false m k t) in
       rw same (omega (arith, patch_ways m (omega arith))))
 
   -- and before it, none is
-  pub takes_below : (m : ℕ) → m ≡ lowest (is_put_in (records patch)) (length (records patch))
-      → (k : ℕ) → k < m → way_of (get_or (records patch) k []) ≡ 0
+  pub takes_below : (m : ℕ) → m ≡ lowest (is_put_in ps) (length ps) → (k : ℕ) → k < m → way_of (get_or ps k []) ≡ 0
   takes_below m e k h =
-      eqb-true (way_of (get_or (records patch) k [])) 0
-      (not-false (eqb (way_of (get_or (records patch) k [])) 0)
-      (lowest_below (is_put_in (records patch)) (length (records patch)) k (omega arith)))
+      eqb-true (way_of (get_or ps k [])) 0 (not-false (eqb (way_of (get_or ps k [])) 0) (lowest_below (is_put_in ps) (length ps) k (omega arith)))
 
 -- records of kind k that are put in, of the first n
 abbrev put_of : List (List ℕ) → ℕ → ℕ → ℕ
@@ -120,15 +125,14 @@ puts_counted ps m (suc n) few puts kinds =
     omega arith)
 
 -- so an accepted patch puts in at most 16 + 64 + 256 records
-pub puts_few : (patch : List ℕ) → accepted (patch_verdict patch) ≡ true → (m : ℕ) → PutsFrom (records patch) m
-    → length (records patch) ≤ m + 336
-puts_few patch right m puts =
-    let ps = records patch in
-    let f = (well_formed_of patch right).faultless in
+pub puts_few : (patch : Patch) (m : ℕ) → PutsFrom (records patch.image.now) m → length (records patch.image.now) ≤ m + 336
+puts_few patch m puts =
+    let ps = records patch.image.now in
+    let f = (formed patch).faultless in
     omega (
       arith,
       puts_counted ps m (length ps) (omega arith) puts (λ k l. known_patch_kind (get_or ps k []) (f.forms k l)),
-      (not_too_many ps 1 (transactions_counted Patch ps f.counts)).1,
-      (not_too_many ps 2 (tasks_counted Patch ps f.counts)).1,
-      (not_too_many ps 3 (pairs_counted Patch ps f.counts)).1,
+      (not_too_many ps 1 (transactions_counted Form·Patch ps f.counts)).1,
+      (not_too_many ps 2 (tasks_counted Form·Patch ps f.counts)).1,
+      (not_too_many ps 3 (pairs_counted Form·Patch ps f.counts)).1,
     )

@@ -2,24 +2,28 @@
 use Prim.Native.Nat.{ℕ}
 use mathlib.Core.List.{List, []}
 use mathlib.Core.Bool.{Bool, true, false, cond, ◌||◌, not}
-use mathlib.Core.Path.{◌≡◌, ap, sym, ◌∙◌}
+use mathlib.Core.Path.{◌≡◌, refl, ap, sym, ◌∙◌}
 use native.Mathlib.Omega.{arith}
 use borrow.Author.Tests.{ne_eqb, eqb-true}
-use lib.ListN.{length, take}
-use lib.Seq.{length-take-le}
+use lib.ListN.{length}
 use lib.Dec.{ltb, eqb}
 use Rattle.rules.specs.declared.Form.TheVariants.{Table}
 use Rattle.rules.specs.declared.Verdict.{Verdict}
 use Rattle.rules.specs.declared.Patched.{Patched}
+use Rattle.rules.specs.declared.Refusal.{Refusal}
+use Rattle.rules.specs.Told.{verdict_of}
+use Rattle.rules.proofs.Judged.{is_refused}
+use Rattle.table.specs.Judged.{earlier_verdict, Judges}
+use Rattle.table.specs.Precedence.{before_map}
+use Rattle.table.proofs.Judging.{judged_accepted, judged_before}
 use Rattle.rules.specs.Blocks.{records, record_at, image_of}
 use Rattle.rules.specs.Patches.{outcome, touched_count, patched_map}
 use Rattle.rules.specs.Refusals.{accepted, fine, refusal, or_else, table_verdict, patch_verdict, absent_refusal, broken, outcome_refusal, short_refusal}
 use Rattle.rules.specs.Calls.{over, outcome_length, patch_call_verdict, patch_refusal, patch_accepted, PatchCall, offending, Offends}
 use Rattle.rules.proofs.Numbers.{either}
-use Rattle.rules.proofs.Refusals.{accepted_first, accepted_second}
 use Rattle.rules.proofs.Image.Written.{length-image_of, records-image_of}
 use Rattle.rules.proofs.Patch.Outcome.{outcome_sized, outcome-broken}
-use Rattle.patch.specs.Written.{ImageWritten}
+use Rattle.patch.specs.declared.change.Change.{Change}
 
 -- the checks that need no outcome
 abbrev pub both_verdict : List ℕ → List ℕ → Verdict
@@ -40,20 +44,6 @@ patch_determined base patch rows room new_rows answer other image map image' map
 -- and so are two offending parts
 pub offending_determined : (base patch part other : List ℕ) → Offends base patch part → Offends base patch other → part ≡ other
 offending_determined base patch part other p q = p [] [] [] ∙ sym (q [] [] [])
-
--- where the checks that need no outcome are accepted, each of them is
-module _ (base patch : List ℕ) (h : accepted (both_verdict base patch) ≡ true) where
-  pub both_table : accepted (table_verdict base) ≡ true
-  both_table = accepted_first (table_verdict base) (or_else (patch_verdict patch) (absent_refusal (records base) (records patch))) h
-
-  later_two : accepted (or_else (patch_verdict patch) (absent_refusal (records base) (records patch))) ≡ true
-  later_two = accepted_second (table_verdict base) (or_else (patch_verdict patch) (absent_refusal (records base) (records patch))) h
-
-  pub both_patch : accepted (patch_verdict patch) ≡ true
-  both_patch = accepted_first (patch_verdict patch) (absent_refusal (records base) (records patch)) later_two
-
-  pub both_present : accepted (absent_refusal (records base) (records patch)) ≡ true
-  both_present = accepted_second (patch_verdict patch) (absent_refusal (records base) (records patch)) later_two
 
 -- one check after two others, put together the other way
 three_checks : (u v w x : Verdict) → or_else (or_else u (or_else v w)) x ≡ or_else u (or_else v (or_else w x))
@@ -91,12 +81,6 @@ module _ (base patch rows room new_rows : List ℕ) where
       → is_short base patch rows room new_rows ≡ false → patch_call_verdict base patch rows room new_rows ≡ fine
   call_fine h b s = call_verdict ∙ rw (h, b, s)
 
-  -- the image of the outcome is refused as a table
-  pub call_image_refused : accepted (both_verdict base patch) ≡ true → accepted (table_verdict (image_of Table (outcome (records base) (records patch)))) ≡ false
-      → patch_call_verdict base patch rows room new_rows ≡ refusal 10 0
-  call_image_refused h r =
-      call_broken h (outcome-broken base patch (both_table base patch h) (both_patch base patch h) ∙ ap not r)
-
   -- a refusal: its number and place, and nothing written
   pub patch_refused : (v : Verdict) → patch_call_verdict base patch rows room new_rows ≡ v → accepted v ≡ false
       → PatchCall base patch rows room new_rows (patch_refusal v) room new_rows
@@ -126,37 +110,75 @@ module _ (base patch rows room new_rows : List ℕ) where
   pub offending_number : offending (patch_call_verdict base patch rows room new_rows) patch ≡ cond (eqb (both_verdict base patch).number 9) (record_at patch (both_verdict base patch).place) []
   offending_number = only_nine (λ v. record_at patch v.place) []
 
--- the outcome's image in a space, judged as a table
-module _ (base patch : List ℕ) (both : accepted (both_verdict base patch) ≡ true) (n : ℕ) (space later : List ℕ) (made : ImageWritten (outcome (records base) (records patch)) n space later) where
-  -- it is judged as the outcome is
-  judged_as : broken (outcome (records base) (records patch)) ≡ not (accepted (table_verdict (take n later)))
-  judged_as = outcome-broken base patch (both_table base patch both) (both_patch base patch both) ∙ ap not (sym made.judged)
+-- a patch that may be applied
+module _ (change : Change) where
+  abbrev base : List ℕ
+  base = change.base.image.now
 
-  -- refused, the outcome is broken
-  pub refused_broken : accepted (table_verdict (take n later)) ≡ false → broken (outcome (records base) (records patch)) ≡ true
-  refused_broken h = judged_as ∙ ap not h
+  abbrev patch : List ℕ
+  patch = change.patch.image.now
 
-  -- accepted, it is not
-  module _ (h : accepted (table_verdict (take n later)) ≡ true) where
-    pub accepted_whole : broken (outcome (records base) (records patch)) ≡ false
-    accepted_whole = judged_as ∙ ap not h
+  -- the outcome's records
+  abbrev rs : List (List ℕ)
+  rs = outcome (records base) (records patch)
 
-    -- and the space starts with the image of the outcome
-    pub accepted_image : take n later ≡ image_of Table (outcome (records base) (records patch))
-    accepted_image = made.image (sym made.judged ∙ h)
+  -- passes the checks that need no outcome
+  pub both_fine : accepted (both_verdict base patch) ≡ true
+  both_fine = rw (change.base.accepted, change.patch.accepted) change.present
 
-    -- which has its records
-    pub accepted-records : records (take n later) ≡ outcome (records base) (records patch)
-    accepted-records =
-        ap records accepted_image
-        ∙ records-image_of Table (outcome (records base) (records patch)) (outcome_sized base patch (both_table base patch both) (both_patch base patch both))
+  -- is refused where the image of its outcome is, as a table
+  broken_as : broken rs ≡ not (accepted (table_verdict (image_of Table rs)))
+  broken_as = outcome-broken base patch change.base.accepted change.patch.accepted
+
+  module _ (rows room new_rows : List ℕ) where
+    -- the image of the outcome is no table: 10, and nothing written
+    pub change_broken : accepted (table_verdict (image_of Table rs)) ≡ false
+        → PatchCall base patch rows room new_rows (patch_refusal (refusal 10 0)) room new_rows
+    change_broken r =
+        patch_refused base patch rows room new_rows (refusal 10 0) (call_broken base patch rows room new_rows both_fine (broken_as ∙ ap not r)) refl
+
+    -- the image is one
+    module _ (right : accepted (table_verdict (image_of Table rs)) ≡ true) where
+      -- a map or room is too short: 11, and nothing written
+      pub change_short : is_short base patch rows room new_rows ≡ true
+          → PatchCall base patch rows room new_rows (patch_refusal (refusal 11 0)) room new_rows
+      change_short short =
+          patch_refused base patch rows room new_rows (refusal 11 0) (call_short base patch rows room new_rows both_fine (broken_as ∙ ap not right) short) refl
+
+  -- the image of the outcome
+  module _ (image : List ℕ) (made : image ≡ image_of Table rs) where
+    -- has its records
+    pub image-records : records image ≡ rs
+    image-records = ap records made ∙ records-image_of Table rs (outcome_sized base patch change.base.accepted change.patch.accepted)
 
     -- and its length
-    pub accepted-length : n ≡ outcome_length base patch
-    accepted-length =
-        sym (length-take-le n later made.inside)
-        ∙ ap length accepted_image
-        ∙ length-image_of Table (outcome (records base) (records patch)) (outcome_sized base patch (both_table base patch both) (both_patch base patch both))
+    pub image-length : length image ≡ outcome_length base patch
+    image-length = ap length made ∙ length-image_of Table rs (outcome_sized base patch change.base.accepted change.patch.accepted)
+
+    -- where it is a table, and no map or room is too short, it is written with its map
+    pub change_applied : (rows room new_rows : List ℕ) → accepted (table_verdict image) ≡ true → is_short base patch rows room new_rows ≡ false
+        → PatchCall base patch rows room new_rows (patch_accepted (touched_count (records base) (records patch)) (length image))
+        (over image room) (over (patched_map (records base) (records patch) rows) new_rows)
+    change_applied rows room new_rows right enough =
+        let call = patch_accepted_lem base patch rows room new_rows (call_fine base patch rows room new_rows both_fine (broken_as ∙ ap not (rw made at right)) enough) in
+        record {
+          answered = ap (patch_accepted (touched_count (records base) (records patch))) image-length ∙ call.answered;
+          written = ap (λ (values : List ℕ). over values room) made ∙ call.written;
+          carried = call.carried;
+        }
+
+-- what an image is judged to be
+module _ (image : List ℕ) (rows later : List ℕ) where
+  -- a table, with what comes before what
+  pub judged_table : Judges (table_verdict image) (earlier_verdict image) (records image) fine rows later → later ≡ before_map (records image)
+  judged_table by = judged_before image fine rows later by (judged_accepted image fine rows later by refl)
+
+  -- or none
+  pub judged_none : (e : Refusal) → Judges (table_verdict image) (earlier_verdict image) (records image) (verdict_of e) rows later → accepted (table_verdict image) ≡ false
+  judged_none e by = rw (← by.verdict) (is_refused e)
+
+-- what decides how an outcome is judged, for the function that judges it
+pub ruleset judgments = (judged_table, judged_none)
 
 -- what decides the verdict of a patch call, for the functions that answer it
-pub ruleset call_verdicts = (call_refused, call_image_refused, offending_number)
+pub ruleset call_verdicts = (call_refused, change_broken, offending_number)

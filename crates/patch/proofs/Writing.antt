@@ -1,8 +1,9 @@
 -- Records that lie one after another are cut into those records again, so what is written of them is their image.
-use Prim.Native.Nat.{ℕ, ◌*◌, ◌/◌, ◌%◌, ◌≤◌}
+use Prim.Native.Nat.{ℕ, ◌*◌, ◌/◌, ◌%◌, ◌≤◌, ◌<◌}
 use mathlib.Core.List.{List, []}
+use Rattle.std.specs.Prelude.{Option, Some, None, IfSome, unwrap_or}
 use mathlib.Core.Bool.{false}
-use mathlib.Core.Path.{◌≡◌, refl, ap, sym, ◌∙◌}
+use mathlib.Core.Path.{◌≡◌, ap, sym, ◌∙◌}
 use native.Mathlib.Omega.{arith}
 use borrow.Author.Tests.{eq-eqb, le-leb, leb-true, leb-false}
 use lib.ListN.{length, get_or, take, drop, length-append, length-drop}
@@ -11,19 +12,14 @@ use lib.Dec.{leb}
 use Rattle.rules.specs.declared.Form.TheVariants.{Table}
 use Rattle.rules.specs.Numbers.{up_to}
 use Rattle.rules.specs.Blocks.{blocks_for, joined, image_of}
-use Rattle.rules.specs.Calls.{over, cut, writable, written_length, written_room}
-use Rattle.rules.specs.Refusals.{accepted, frame_verdict, table_verdict}
-use Rattle.rules.proofs.Numbers.{either, never, up_to_ext}
+use Rattle.rules.specs.Calls.{cut, writable, written_length, written_room}
+use Rattle.rules.specs.Refusals.{accepted, table_verdict}
+use Rattle.rules.proofs.Numbers.{either, up_to_ext}
 use Rattle.rules.proofs.Image.Parts.{Records, length-joined, part_joined}
 use Rattle.rules.proofs.Image.Written.{length-image_of}
 use Rattle.rules.proofs.Table.Kinds.{up_to_elements}
 use Rattle.rules.proofs.Patch.Valid.{valid_few, valid_image_of}
 use Rattle.patch.specs.Written.{ImageWritten}
-
--- no bytes are no table
-none_refused : accepted (table_verdict []) ≡ false
-unfolding table_verdict frame_verdict
-none_refused = refl
 
 -- records of 32 bytes, one after another
 module _ (rs : List (List ℕ)) (sized : Records rs) where
@@ -54,22 +50,19 @@ module _ (rs : List (List ℕ)) (sized : Records rs) where
       (λ t. absurd (omega (arith, leb-false (blocks_for (length rs)) 23 many, valid_few rs (valid_image_of rs sized t))))
       (λ t. t)
 
-  -- what is written of them
-  pub image_written : (room : List ℕ) → 11776 ≤ length room → ImageWritten rs (written_length Table (joined rs) room) room (written_room Table (joined rs) room)
-  image_written room holds =
+  -- what is written of them, and how many bytes
+  pub image_written : (room : List ℕ) → 11776 ≤ length room → (written : Option ℕ) → unwrap_or written 0 ≡ written_length Table (joined rs) room
+      → IfSome written (λ n. 0 < n) → ImageWritten rs written (written_room Table (joined rs) room)
+  image_written room holds None told some =
+      either (leb (blocks_for (length rs)) 23)
+      (λ t. absurd (omega (arith, rw (writable_where room holds, t, count-joined) at told)))
+      (λ t. crowded t)
+  image_written room holds (Some n) told some =
       either (leb (blocks_for (length rs)) 23)
       (λ t.
       let few = leb-true (blocks_for (length rs)) 23 t in
       let long = length-image_of Table rs sized in
-      let front : take (512 * blocks_for (length rs)) (over (image_of Table rs) room) ≡ image_of Table rs = take_at (image_of Table rs) (drop (length (image_of Table rs)) room) (512 * blocks_for (length rs)) long in
-      let same : length (over (image_of Table rs) room) ≡ length room = simp (length-append, length-drop) (omega arith) in
-      rw (writable_where room holds ∙ t, cut-joined, count-joined)
-      (record { same_length = same; inside = omega arith; judged = ap (λ (image : List ℕ). accepted (table_verdict image)) front; image = λ right. front }))
-      (λ t.
-      rw (writable_where room holds ∙ t)
-      (record {
-        same_length = refl;
-        inside = omega arith;
-        judged = none_refused ∙ sym (crowded t);
-        image = λ right. never (accepted (table_verdict (image_of Table rs))) right (crowded t);
-      }))
+      let bytes : n ≡ 512 * blocks_for (length rs) = rw (writable_where room holds, t, count-joined) at told in
+      rw (writable_where room holds ∙ t, cut-joined)
+      (rw (length-append, length-drop) (omega arith), take_at (image_of Table rs) (drop (length (image_of Table rs)) room) n (long ∙ sym bytes)))
+      (λ t. absurd (omega (arith, some, rw (writable_where room holds, t) at told)))

@@ -5,8 +5,10 @@
 pub mod absent;
 pub mod call;
 mod carried;
+pub mod change;
 mod merge;
 mod outcome;
 pub mod parts;
+mod related;
 pub mod space;
 mod touched;

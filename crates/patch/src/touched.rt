@@ -1,119 +1,92 @@
 // Touched tasks, as a set of places: those that a patch record concerns, and those along the paths of a precedence pair.
-ghost use Rattle.std.specs.Prelude.{◌≡◌, ◌≤◌, eqb, length, get_or};
+ghost use Rattle.std.specs.Prelude.{◌≡◌, ◌≤◌};
 ghost use Rattle.rules.specs.Numbers.{count_to};
 ghost use Rattle.rules.specs.Blocks.{records};
-ghost use Rattle.rules.specs.Patches.{concerns};
 ghost use Rattle.rules.specs.Preempt.{bit_at};
-ghost use Rattle.table.specs.Numbers.{Rising};
-ghost use Rattle.image.specs.Held.{HoldsRecords};
-ghost use Rattle.patch.specs.Touched.{Marks, beside_in, along_in, touched_in, touched_at};
+ghost use Rattle.patch.specs.Touched.{Marks, has_id, concerns_at, beside_in, along_in, touched_in, touched_at};
 
+use crate::related::Related;
 use image::bytes::{byte_at, two_bytes};
 use image::records::{record_at, record_count};
+use preempt::tasks::Tasks;
+use rules::{Kind, Sort};
 use sets::bits::{is_set, power};
 use sets::places::{members, union};
+use table::accepted::Patch;
 use table::place::place_of;
 
 // The task with an id, or none.
-fn task_with(ids: &[u32], count: usize, id: u32) -> u64
-    requires count_bound { (count ≤ 64) × (count ≤ length ids.now) }
-    requires rising { Rising ids.now count }
-    ensures { Marks count (λ i. eqb id (get_or ids.now i 0)) result }
+#[tactic(auto, using(crate::proofs::Touching::finding))]
+fn task_with(tasks: &Tasks, id: u32) -> u64
+    ensures { Marks tasks.now (has_id tasks.now id) result }
 {
-    let place = place_of(ids, count, id);
-    if place == count {
-        return 0;
+    match place_of(&tasks.columns.ids, tasks.table.tasks, id) {
+        Some(place) => power(place),
+        None => 0,
     }
-    power(place)
 }
 
 // The tasks that a patch record concerns.
-fn concerned(ids: &[u32], transactions: &[u32], count: usize, fields: &[u8]) -> u64
-    requires count_bound { (count ≤ 64) × ((count ≤ length ids.now) × (count ≤ length transactions.now)) }
-    requires rising { Rising ids.now count }
-    ensures { Marks count (λ i. concerns fields.now (get_or ids.now i 0) (get_or transactions.now i 0)) result }
+fn concerned(tasks: &Tasks, fields: &[u8]) -> u64
+    ensures { Marks tasks.now (concerns_at tasks.now fields.now) result }
 {
-    let kind = byte_at(fields, 0);
     let number = two_bytes(fields, 2);
-    if kind == 1 {
-        return members(transactions, count, number);
+    match Kind::try_from(byte_at(fields, 0)) {
+        Ok(Kind::Transaction) => members(&tasks.columns.transactions, tasks.table.tasks, number),
+        Ok(Kind::Task) => task_with(tasks, number),
+        Ok(Kind::Pair) => {
+            let second = two_bytes(fields, 4);
+            union(task_with(tasks, number), task_with(tasks, second))
+        }
+        Err(_) => 0,
     }
-    if kind == 2 {
-        return task_with(ids, count, number);
-    }
-    if kind == 3 {
-        let second = two_bytes(fields, 4);
-        return union(task_with(ids, count, number), task_with(ids, count, second));
-    }
-    0
 }
 
-// The tasks that come before or after the one with an id, where a task has it. The rows say which do.
-fn tasks_beside(ids: &[u32], count: usize, beside: &[u64; 64], id: u32) -> u64
-    requires count_bound { (count ≤ 64) × (count ≤ length ids.now) }
-    requires rising { Rising ids.now count }
-    ensures { Marks count (beside_in ids.now count beside.now id) result }
+// The tasks that come before or after the one with an id, where a task has it.
+#[tactic(auto, using(crate::proofs::Touching::finding))]
+fn tasks_beside(related: &Related, id: u32) -> u64
+    ensures { Marks related.now.tasks (beside_in related.now id) result }
 {
-    let place = place_of(ids, count, id);
-    if place == count {
-        return 0;
+    let tasks = &related.tasks;
+    match place_of(&tasks.columns.ids, tasks.table.tasks, id) {
+        Some(place) => related.beside[place],
+        None => 0,
     }
-    beside[place]
 }
 
 // The tasks along the paths of a patch record: those before or after one of its two, where it is a precedence pair.
-fn tasks_along(ids: &[u32], count: usize, beside: &[u64; 64], fields: &[u8]) -> u64
-    requires count_bound { (count ≤ 64) × (count ≤ length ids.now) }
-    requires rising { Rising ids.now count }
-    ensures { Marks count (along_in ids.now count beside.now fields.now) result }
+fn tasks_along(related: &Related, fields: &[u8]) -> u64
+    ensures { Marks related.now.tasks (along_in related.now fields.now) result }
 {
-    if byte_at(fields, 0) != 3 {
+    if byte_at(fields, 0) != u32::from(Kind::Pair) {
         return 0;
     }
-    if byte_at(fields, 1) != 1 {
+    if byte_at(fields, 1) != u32::from(Sort::Precedence) {
         return 0;
     }
-    let first = tasks_beside(ids, count, beside, two_bytes(fields, 2));
-    let second = tasks_beside(ids, count, beside, two_bytes(fields, 4));
+    let first = tasks_beside(related, two_bytes(fields, 2));
+    let second = tasks_beside(related, two_bytes(fields, 4));
     union(first, second)
 }
 
 // The tasks that a patch record touches.
-fn touched_by(
-    ids: &[u32],
-    transactions: &[u32],
-    count: usize,
-    beside: &[u64; 64],
-    fields: &[u8],
-) -> u64
-    requires count_bound { (count ≤ 64) × ((count ≤ length ids.now) × (count ≤ length transactions.now)) }
-    requires rising { Rising ids.now count }
-    ensures { Marks count (touched_in ids.now transactions.now count beside.now fields.now) result }
+fn touched_by(related: &Related, fields: &[u8]) -> u64
+    ensures { Marks related.now.tasks (touched_in related.now fields.now) result }
 {
     union(
-        concerned(ids, transactions, count, fields),
-        tasks_along(ids, count, beside, fields),
+        concerned(&related.tasks, fields),
+        tasks_along(related, fields),
     )
 }
 
-// The tasks of the outcome that some record of the patch touches. The rows say which of them come before or after which; along the
-// paths of the base no other task is touched.
-pub fn touched_tasks(
-    patch: &[u8],
-    ids: &[u32],
-    transactions: &[u32],
-    count: usize,
-    beside: &[u64; 64],
-) -> u64
-    requires count_bound { (count ≤ 64) × ((count ≤ length ids.now) × (count ≤ length transactions.now)) }
-    requires rising { Rising ids.now count }
-    requires holds_records { HoldsRecords patch.now }
-    ensures { Marks count (touched_at (records patch.now) ids.now transactions.now count beside.now) result }
+// The tasks of the outcome that some record of the patch touches. Along the paths of the base no other task is touched.
+pub fn touched_tasks(patch: &Patch, related: &Related) -> u64
+    ensures { Marks related.now.tasks (touched_at (records patch.now.image.now) related.now) result }
 {
     let mut set: u64 = 0;
-    for place in 0..record_count(patch) {
-        let fields = record_at(patch, place);
-        set = union(set, touched_by(ids, transactions, count, beside, fields));
+    for place in 0..record_count(patch.image) {
+        let fields = record_at(patch.image, place);
+        set = union(set, touched_by(related, fields));
     }
     set
 }

@@ -5,7 +5,6 @@ ghost use Rattle.rules.specs.Records.{tasks, listed};
 ghost use Rattle.rules.specs.Refusals.{accepted, table_verdict};
 ghost use Rattle.table.specs.Precedence.{before_map};
 
-use console::print::{number, text};
 use preempt::tasks::task_place;
 use reason::places::reason_at;
 use reason::told::write_word;
@@ -15,14 +14,11 @@ use table::judge_table;
 
 // A line with two ids, and the word for why the first may be preempted by the second.
 fn line(out: &impl Print, low: u16, high: u16, reason: Reason) -> io::Result<()> {
-    number(out, low as u32)?;
-    text(out, b" ")?;
-    number(out, high as u32)?;
-    text(out, b" ")?;
+    print!(out; "{low} {high} ")?;
     let mut word = [0u8; 11];
     let length = write_word(reason, &mut word);
-    text(out, &word[..length])?;
-    text(out, b"\n")
+    out.write_all(&word[..length])?;
+    println!(out;)
 }
 
 // A line for each two neighbours among the first count ids, which are of tasks of an accepted table. The rows of before say which of

@@ -2,18 +2,16 @@
 -- has written the records that it passed.
 use Prim.Native.Nat.{ℕ, suc, ◌+◌, ◌*◌, ◌-◌, ◌≤◌, ◌<◌}
 use mathlib.Core.List.{List, [], ◌∷◌, ◌++◌, append_assoc, append-nil}
-use mathlib.Core.Bool.{true}
 use mathlib.Core.Path.{◌≡◌, refl, ◌∙◌}
 use native.Mathlib.Omega.{arith}
 use lib.ListN.{length, get_or, set, take, drop, length-append, length-set, length-take, length-drop}
 use lib.Seq.{take-suc, get_or-drop}
 use Rattle.rules.specs.Blocks.{records, record_count}
 use Rattle.rules.specs.Patches.{with_way}
-use Rattle.rules.specs.Refusals.{accepted, patch_verdict}
+use Rattle.table.specs.declared.accepted.Patch.{Patch}
 use Rattle.rules.proofs.Image.Parts.{joined-append}
-use Rattle.rules.proofs.Patch.WellFormed.{well_formed_of}
 use Rattle.rules.proofs.Patch.Ways.{with_way-append, length-with_way}
-use Rattle.patch.proofs.Accepted.{as_many}
+use Rattle.patch.proofs.Accepted.{as_many, formed}
 use Rattle.patch.proofs.Flat.{with_record, length_written, front_written}
 use Rattle.reverse.specs.Turned.{Behind}
 
@@ -62,37 +60,37 @@ pub record Growing (ps : List (List ℕ)) (way from to before k written : ℕ) (
   pub behind : Behind (part ps way from k) before written flat later
 
 -- a part of an accepted patch, and room for it
-module _ (patch : List ℕ) (way from to before : ℕ) (flat : List ℕ) (right : accepted (patch_verdict patch) ≡ true) (asked : (from ≤ to) × ((to ≤ record_count patch) × (before + 32 * (to - from) ≤ length flat))) where
+module _ (patch : Patch) (way from to before : ℕ) (flat : List ℕ) (asked : (from ≤ to) × ((to ≤ record_count patch.image.now) × (before + 32 * (to - from) ≤ length flat))) where
   -- none of its records is written
-  pub growing_none : Growing (records patch) way from to before from before flat flat
+  pub growing_none : Growing (records patch.image.now) way from to before from before flat flat
   unfolding with_way
   growing_none =
       let none : from - from ≡ 0 = omega arith in
       record { forward = omega arith; inside = asked.0; behind = rw none (behind_none before flat) }
 
   -- those up to number k are
-  module _ (k written : ℕ) (later : List ℕ) (g : Growing (records patch) way from to before k written flat later) where
+  module _ (k written : ℕ) (later : List ℕ) (g : Growing (records patch.image.now) way from to before k written flat later) where
     -- and that is all where k is the end
-    pub growing_all : to ≤ k → Behind (part (records patch) way from to) before written flat later
+    pub growing_all : to ≤ k → Behind (part (records patch.image.now) way from to) before written flat later
     growing_all end =
         let same : k ≡ to = omega (arith, g.inside) in
         rw same at g.behind
 
     module _ (more : k < to) where
       -- the next has 32 bytes
-      pub growing_next : length (get_or (records patch) k []) ≡ 32
-      growing_next = (well_formed_of patch right).sized k (omega (arith, as_many patch))
+      pub growing_next : length (get_or (records patch.image.now) k []) ≡ 32
+      growing_next = (formed patch).sized k (omega (arith, as_many patch.image.now))
 
       -- there is room for it
       pub growing_fits : written + 32 ≤ length later
       growing_fits =
           let size = simp (length-with_way, length-take, length-drop) at g.behind.size in
-          omega (arith, size, g.behind.same_length, g.forward, as_many patch)
+          omega (arith, size, g.behind.same_length, g.forward, as_many patch.image.now)
 
       -- and where it is written, those up to number k + 1 are
-      pub growing_more : Growing (records patch) way from to before (k + 1) (written + 32) flat (with_record written (set (get_or (records patch) k []) 31 way) later)
+      pub growing_more : Growing (records patch.image.now) way from to before (k + 1) (written + 32) flat (with_record written (set (get_or (records patch.image.now) k []) 31 way) later)
       growing_more =
-          let ps = records patch in
+          let ps = records patch.image.now in
           let r = set (get_or ps k []) 31 way in
           record {
             forward = omega (arith, g.forward);
@@ -100,5 +98,5 @@ module _ (patch : List ℕ) (way from to before : ℕ) (flat : List ℕ) (right 
             behind =
                 behind_both (part ps way from k) (r ∷ []) (part ps way from (k + 1)) before written (written + 32) flat later (with_record written r later) g.behind
                 (behind_one r later written (length-set (get_or ps k []) 31 way ∙ growing_next) growing_fits)
-                (part_more ps way from k g.forward (omega (arith, as_many patch)));
+                (part_more ps way from k g.forward (omega (arith, as_many patch.image.now)));
           }

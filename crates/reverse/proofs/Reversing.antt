@@ -8,20 +8,19 @@ use native.Mathlib.Omega.{arith}
 use borrow.Author.Tests.{eq-eqb, le-leb}
 use lib.ListN.{length, take, drop, length-drop}
 use lib.Seq.{take_all}
-use Rattle.rules.specs.declared.Form.TheVariants.{Patch}
-use Rattle.rules.specs.Numbers.{Bytes, lowest}
+use Rattle.rules.specs.declared.Form.TheVariants.{Patch as Form·Patch}
+use Rattle.rules.specs.Numbers.{lowest}
 use Rattle.rules.specs.Blocks.{records, record_count, blocks_for, joined}
 use Rattle.rules.specs.Patches.{reversed}
-use Rattle.rules.specs.Refusals.{accepted, patch_verdict}
-use Rattle.rules.specs.Calls.{over, writable, written_length, written_room, reverse_of}
+use Rattle.table.specs.declared.accepted.Patch.{Patch}
+use Rattle.rules.specs.Calls.{over, writable, written_room, reverse_of}
 use Rattle.rules.proofs.Numbers.{lowest_le}
-use Rattle.rules.proofs.Image.Frame.{frame_of, frame_accepted, records_fit}
+use Rattle.rules.proofs.Image.Frame.{Frame, frame_of, frame_accepted, records_fit}
 use Rattle.rules.proofs.Image.Parts.{Records, length-joined}
 use Rattle.rules.proofs.Image.Written.{length-image_of}
-use Rattle.rules.proofs.Patch.WellFormed.{well_formed_of}
 use Rattle.rules.proofs.Patch.Reversed.{reversed_at, reversed_sized, reverse-count, reverse-length}
 use Rattle.patch.specs.Parts.{is_put_in}
-use Rattle.patch.proofs.Accepted.{as_many, first_in, puts_from, takes_below}
+use Rattle.patch.proofs.Accepted.{as_many, first_in, formed, puts_from, takes_below}
 use Rattle.patch.proofs.Writing.{count-joined, cut-joined}
 use Rattle.reverse.specs.Turned.{Behind}
 use Rattle.reverse.proofs.Growing.{part}
@@ -34,50 +33,52 @@ pub first_inside : (patch : List ℕ) → first_put_in patch ≤ record_count pa
 first_inside patch = lowest_le (is_put_in (records patch)) (record_count patch)
 
 -- an accepted patch
-module _ (patch : List ℕ) (right : accepted (patch_verdict patch) ≡ true) where
+module _ (patch : Patch) where
+  abbrev image : List ℕ
+  image = patch.image.now
+
+  abbrev ps : List (List ℕ)
+  ps = records image
+
+  framed : Frame Form·Patch image
+  framed = frame_of Form·Patch image (frame_accepted Form·Patch image patch.accepted)
+
   -- has at most 45 blocks
-  pub patch_long : length patch ≤ 23040
-  patch_long =
-      let f = frame_of Patch patch (frame_accepted Patch patch right) in
-      omega (arith, f.whole, f.not_too_many)
+  pub patch_long : length image ≤ 23040
+  patch_long = let f = framed in omega (arith, f.whole, f.not_too_many)
 
   -- with at most 675 records
-  pub patch_few : record_count patch ≤ 675
-  patch_few =
-      let f = frame_of Patch patch (frame_accepted Patch patch right) in
-      omega (arith, records_fit Patch patch f, f.not_too_many)
+  pub patch_few : record_count image ≤ 675
+  patch_few = let f = framed in omega (arith, records_fit Form·Patch image f, f.not_too_many)
 
   -- what it puts in, to be taken out, and behind it what it takes out, to be put in, are its reverse
-  pub reverse_parts : Bytes patch → (first count : ℕ) → first ≡ first_put_in patch → count ≡ record_count patch
-      → part (records patch) 0 first count ++ part (records patch) 1 0 first ≡ reversed (records patch)
-  reverse_parts bytes first count start end =
-      let ps = records patch in
-      let many : count ≡ length ps = end ∙ sym (as_many patch) in
-      let found = first_in patch first start in
-      let inside : first ≤ length ps = omega (arith, first_inside patch) in
+  pub reverse_parts : (first count : ℕ) → first ≡ first_put_in image → count ≡ record_count image → part ps 0 first count ++ part ps 1 0 first ≡ reversed ps
+  reverse_parts first count start end =
+      let many : count ≡ length ps = end ∙ sym (as_many image) in
+      let found = first_in image first start in
+      let inside : first ≤ length ps = omega (arith, first_inside image) in
       let rest : take (count - first) (drop first ps) ≡ drop first ps = take_all (count - first) (drop first ps) (rw length-drop (omega arith)) in
       let front : first - 0 ≡ first = omega arith in
-      rw (rest, front) (sym (reversed_at ps first inside (takes_below patch right first found) (puts_from patch right bytes first found)))
+      rw (rest, front) (sym (reversed_at ps first inside (takes_below patch first found) (puts_from patch first found)))
 
   -- where they are written, they lie inside a list that has room for 675 records
-  pub reverse_inside : (written : ℕ) (flat later : List ℕ) → 21600 ≤ length flat → Behind (reversed (records patch)) 0 written flat later
-      → written ≤ length later
-  reverse_inside written flat later room behind = omega (arith, behind.size, behind.same_length, reverse-count patch right, patch_few)
+  pub reverse_inside : (written : ℕ) (flat later : List ℕ) → 21600 ≤ length flat → Behind (reversed ps) 0 written flat later → written ≤ length later
+  reverse_inside written flat later room behind = omega (arith, behind.size, behind.same_length, reverse-count image patch.accepted, patch_few)
 
   -- the records of the reverse have 32 bytes each
-  sized : Records (reversed (records patch))
-  sized = reversed_sized (records patch) (well_formed_of patch right).sized
+  sized : Records (reversed ps)
+  sized = reversed_sized ps (formed patch).sized
 
   -- and fill as many bytes, in whole blocks, as the patch has
-  blocks_long : 512 * blocks_for (length (reversed (records patch))) ≡ length patch
-  blocks_long = sym (length-image_of Patch (reversed (records patch)) sized) ∙ reverse-length patch right
+  blocks_long : 512 * blocks_for (length (reversed ps)) ≡ length image
+  blocks_long = sym (length-image_of Form·Patch (reversed ps) sized) ∙ reverse-length image patch.accepted
 
   -- a room that holds as many has room for their image
-  module _ (room : List ℕ) (holds : length patch ≤ length room) where
-    reverse-writable : writable Patch (joined (reversed (records patch))) room ≡ true
+  module _ (room : List ℕ) (holds : length image ≤ length room) where
+    reverse-writable : writable Form·Patch (joined (reversed ps)) room ≡ true
     unfolding writable
     reverse-writable =
-        let rs = reversed (records patch) in
+        let rs = reversed ps in
         rw (
           eq-eqb (length (joined rs) % 32) 0 (omega (arith, length-joined 32 rs sized)),
           count-joined rs sized,
@@ -85,9 +86,6 @@ module _ (patch : List ℕ) (right : accepted (patch_verdict patch) ≡ true) wh
           le-leb (512 * blocks_for (length rs)) (length room) (omega (arith, blocks_long)),
         )
 
-    -- which is written, as long as the patch
-    pub reverse_image : (flat : List ℕ) → flat ≡ joined (reversed (records patch))
-        → (written_length Patch flat room ≡ length patch) × (written_room Patch flat room ≡ over (reverse_of patch) room)
-    reverse_image flat same =
-        let rs = reversed (records patch) in
-        rw same (rw (reverse-writable, count-joined rs sized) blocks_long, rw (reverse-writable, cut-joined rs sized))
+    -- which is written
+    pub reverse_image : (flat : List ℕ) → flat ≡ joined (reversed ps) → written_room Form·Patch flat room ≡ over (reverse_of image) room
+    reverse_image flat same = rw same (rw (reverse-writable, cut-joined (reversed ps) sized))

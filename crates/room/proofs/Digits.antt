@@ -72,6 +72,10 @@ said_step n k l h =
     let next : k + 1 ≡ suc k = omega arith in
     ap (λ (j : ℕ). said_behind (with_digit n (get_or l k 0)) (drop j l)) next ∙ said_next n (get_or l k 0) (drop (suc k) l) ∙ ap (said_behind n) (sym (drop-cons l k 0 h))
 
+-- a byte with which there is no reserve: none is said from there on
+pub none_from : (n k : ℕ) (l : List ℕ) → k < length l → none ≡ with_digit n (get_or l k 0) → said_behind n (drop k l) ≡ none
+none_from n k l h e = sym (said_step n k l h) ∙ ap (λ (m : ℕ). said_behind m (drop (k + 1) l)) (sym e) ∙ none_behind none (drop (k + 1) l) (omega arith)
+
 -- and behind the last of them
 pub said_end : (n k : ℕ) (l : List ℕ) → n ≤ none → length l ≤ k → said_behind n (drop k l) ≡ n
 said_end n k l small past =

@@ -1,2 +1,1 @@
-mod Distance
 mod Digits

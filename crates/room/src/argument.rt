@@ -1,53 +1,28 @@
 // The reserve, which is the program's one argument.
-ghost use Rattle.std.specs.Prelude.{◌≡◌, ◌≤◌};
-ghost use Rattle.room.specs.Digits.{is_digit, if_reserve, with_digit, said};
+ghost use Rattle.std.specs.Prelude.{◌≡◌, ◌<◌, ℕ, unwrap_or};
+ghost use Rattle.room.specs.Digits.{none, with_digit, said};
 
 use std::env::{Env, FillError};
 
-// What stands for no reserve, and is one more than the largest.
-pub const NONE: u64 = 4_294_967_296;
-
-// Whether a byte is a decimal digit.
-fn is_digit(byte: u8) -> bool
-    ensures { result ≡ is_digit byte }
+// A number with one decimal digit more behind it, where the byte is a digit and the number a reserve.
+fn with_digit(number: u32, byte: u8) -> Option<u32>
+    ensures { unwrap_or result none ≡ with_digit number byte }
 {
-    if byte < b'0' {
-        return false;
+    if !byte.is_ascii_digit() {
+        return None;
     }
-    byte <= b'9'
+    number.checked_mul(10)?.checked_add(u32::from(byte - b'0'))
 }
 
-// The number, or NONE where it is larger.
-fn if_reserve(number: u64) -> u64
-    ensures { result ≡ if_reserve number }
+// The number that the digits say, where each of them is a digit and the number is a reserve.
+fn number_of(digits: &[u8]) -> Option<u32>
+    ensures { unwrap_or result none ≡ said digits.now }
 {
-    if number < NONE {
-        return number;
-    }
-    NONE
-}
-
-// A number with one decimal digit more behind it, or NONE where the byte is no digit or the number is no reserve.
-fn with_digit(number: u64, byte: u8) -> u64
-    requires { number ≤ 4294967296 }
-    ensures { result ≡ with_digit number byte }
-{
-    if is_digit(byte) {
-        return if_reserve(number * 10 + (byte - b'0') as u64);
-    }
-    NONE
-}
-
-// The number that the digits say, or NONE where one of them is no digit or the number is no reserve.
-fn number_of(digits: &[u8]) -> u64
-    ensures value { result ≡ said digits.now }
-    ensures in_bounds { result ≤ 4294967296 }
-{
-    let mut number: u64 = 0;
+    let mut number = 0;
     for digit in digits {
-        number = with_digit(number, *digit);
+        number = with_digit(number, *digit)?;
     }
-    number
+    Some(number)
 }
 
 // Whether the program was given one argument behind its name.
@@ -55,18 +30,15 @@ fn is_one_given(env: &impl Env) -> bool {
     matches!(env.arg(2, &mut []), Err(FillError::NotPresent))
 }
 
-// The reserve, or NONE where there is not one argument behind the program's name, or it is not 1 to 32 decimal digits that
-// say a number up to the largest reserve.
-pub fn reserve(env: &impl Env) -> u64
-    ensures { result ≤ 4294967296 }
-{
+// The reserve, where there is one argument behind the program's name, and it is 1 to 32 decimal digits that say a number up to the
+// largest reserve.
+pub fn reserve(env: &impl Env) -> Option<u32> {
     if !is_one_given(env) {
-        return NONE;
+        return None;
     }
     let mut word = [0u8; 32];
     match env.arg(1, &mut word) {
-        Ok(0) => NONE,
+        Ok(0) | Err(_) => None,
         Ok(length) => number_of(&word[..length]),
-        Err(_) => NONE,
     }
 }

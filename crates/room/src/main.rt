@@ -10,11 +10,10 @@ mod print;
 use std::io;
 
 fn main(rt: HostRuntime) -> io::Result<()> {
-    let reserve = argument::reserve(&rt);
-    if reserve == argument::NONE {
+    let Some(reserve) = argument::reserve(&rt) else {
         return print::usage(&rt);
-    }
+    };
     let mut space = console::input::space();
     let length = console::input::read(&mut rt.stdin(), &mut space)?;
-    figures::report(&rt, &space[..length], reserve as u32)
+    figures::report(&rt, &space[..length], reserve)
 }

@@ -1,8 +1,7 @@
 // The lines that the program prints.
-ghost use Rattle.std.specs.Prelude.{◌≡◌, true, ◌≤◌, nat_abs, length};
+ghost use Rattle.std.specs.Prelude.{◌≡◌, true, ◌≤◌, length};
 ghost use Rattle.rules.specs.Refusals.{accepted, table_verdict};
 
-use console::print::{number, text};
 use preempt::columns::{IDS, column_of};
 use preempt::tasks::read_tasks;
 use std::io;
@@ -12,33 +11,13 @@ pub fn usage(err: &impl Eprint) -> io::Result<()> {
     eprintln!(err; "room: the reserve is one number from 0 to 4294967295")
 }
 
-// How far a figure is from 0.
-fn distance_from_zero(figure: i64) -> u64
-    ensures { result ≡ nat_abs figure }
-{
-    if figure < 0 {
-        return ((-1 - figure) as u64) + 1;
-    }
-    figure as u64
-}
-
-// A line with an id and a signed figure.
-fn line(out: &impl Print, id: u32, figure: i64) -> io::Result<()> {
-    number(out, id)?;
-    text(out, b" ")?;
-    if figure < 0 {
-        text(out, b"-")?;
-    }
-    out.println(distance_from_zero(figure))
-}
-
 // A line for each of the first ids, with the figure of its place.
 fn lines(out: &impl Print, ids: &[u32], figures: &[i64], count: usize) -> io::Result<()>
     requires ids_in_bounds { count ≤ length ids.now }
     requires figures_in_bounds { count ≤ length figures.now }
 {
-    for place in 0..count {
-        line(out, ids[place], figures[place])?;
+    for (id, figure) in ids[..count].iter().zip(&figures[..count]) {
+        println!(out; "{id} {figure}")?;
     }
     Ok(())
 }

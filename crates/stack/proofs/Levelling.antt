@@ -1,17 +1,31 @@
 -- Laws of the largest size at each priority: priorities above the largest in use add nothing to the sum.
-use Prim.Native.Nat.{ℕ, zero, suc, ◌+◌, ◌≤◌, ◌<◌, max}
-use mathlib.Core.List.{List}
+use Prim.Native.Nat.{ℕ, zero, suc, ◌+◌, ◌*◌, ◌≤◌, ◌<◌, max}
+use mathlib.Core.List.{List, [], ◌∷◌}
 use mathlib.Core.Bool.{true, false}
-use mathlib.Core.Path.{◌≡◌, sym, ◌∙◌}
+use mathlib.Core.Path.{◌≡◌, refl, ap, sym, ◌∙◌}
 use native.Mathlib.Omega.{arith}
 use borrow.Author.Tests.{eqb-true, eqb-false, ne_eqb}
 use lib.Dec.{eqb}
-use lib.ListN.{get_or, set as set_at, length-set}
+use Rattle.std.proofs.Common.{sum}
+use Rattle.std.proofs.lemmas.List.Sums.{sum_by-cons}
+use lib.ListN.{length, get_or, set as set_at, length-set}
 use lib.Seq.{get_or-set_same, get_or-set_other}
 use Rattle.rules.specs.Numbers.{sum_to, largest_to}
-use Rattle.rules.proofs.Numbers.{either, largest_to_step, largest_to_most, sum_to_rest}
+use Rattle.rules.proofs.Numbers.{either, largest_to_step, largest_to_most, sum_to_rest, sum_to_ext, sum_to_light}
 use Rattle.stack.specs.Setting.{Arrays, RowsRise}
 use Rattle.stack.specs.Levels.{size_with, level_in, levels_of, Blank, LargestSizes}
+
+-- a sum from the first number on
+sum_to_front : (f : ℕ → ℕ) (n : ℕ) → sum_to f (suc n) ≡ f 0 + sum_to (λ i. f (suc i)) n
+unfolding sum_to
+sum_to_front f zero = omega arith
+sum_to_front f (suc n) = omega (arith, sum_to_front f n)
+
+-- the sum of a list is that of its elements by place
+pub sum_by_place : (l : List ℕ) → sum l ≡ sum_to (λ i. get_or l i 0) (length l)
+unfolding sum_to
+sum_by_place [] = refl
+sum_by_place (x ∷ l) = sum_by-cons (λ (n : ℕ). n) x l ∙ ap (λ (n : ℕ). x + n) (sum_by_place l) ∙ sym (sum_to_front (λ i. get_or (x ∷ l) i 0) (length l))
 
 -- the largest is at most what each number is at most
 pub largest_to_light : (f : ℕ → ℕ) (n most : ℕ) → ((i : ℕ) → i < n → f i ≤ most) → largest_to f n ≤ most
@@ -45,6 +59,18 @@ module _ {count : ℕ} {rows priorities sizes : List ℕ} (arrays : Arrays count
   pub levels_all : sum_to (level_in priorities sizes count) 256 ≡ levels_of priorities sizes count
   levels_all =
       sum_to_rest (level_in priorities sizes count) (largest_to (λ i. get_or priorities i 0) count + 1) 256 (omega (arith, priorities_light)) (λ p above h. level_unused p above)
+
+  -- and so do the largest sizes, which leave room for their sum
+  module _ {largest : List ℕ} (made : LargestSizes count priorities sizes largest) where
+    pub sizes_sum : sum largest ≡ levels_of priorities sizes count
+    sizes_sum =
+        sum_by_place largest
+        ∙ ap (sum_to (λ p. get_or largest p 0)) made.priority_count
+        ∙ sum_to_ext (λ p. get_or largest p 0) (level_in priorities sizes count) 256 (λ p h. made.levels p)
+        ∙ levels_all
+
+    pub sizes_fit : sum largest ≤ 65535 * 256
+    sizes_fit = omega (arith, sizes_sum, levels_all, sum_to_light (level_in priorities sizes count) 256 (λ p h. level_light p))
 
 -- with no task every level is 0
 pub sizes_none : {priorities sizes largest : List ℕ} → Blank largest → LargestSizes 0 priorities sizes largest

@@ -1,5 +1,5 @@
 // The bound by levels: for each priority in use the largest size, added up.
-ghost use Rattle.std.specs.Prelude.{◌≡◌};
+ghost use Rattle.std.specs.Prelude.{◌≡◌, ◌<◌, ◌^◌, sum};
 ghost use Rattle.stack.specs.Levels.{Blank, LargestSizes, levels_of};
 
 use crate::rising::Rising;
@@ -26,14 +26,17 @@ fn largest_sizes(rising: &Rising) -> [u32; 256]
     largest
 }
 
+// The sum of numbers, where it fits.
+fn sum_of(numbers: &[u32]) -> u32
+    requires fits { sum numbers.now < 2 ^ 32 }
+    ensures { result ≡ sum numbers.now }
+{
+    numbers.iter().sum()
+}
+
 // For each priority in use the largest size, added up.
 pub fn level_bound(rising: &Rising) -> u32
     ensures { result ≡ levels_of rising.now.priorities rising.now.sizes rising.now.count }
 {
-    let largest = largest_sizes(rising);
-    let mut sum: u32 = 0;
-    for priority in 0..256 {
-        sum += largest[priority];
-    }
-    sum
+    sum_of(&largest_sizes(rising))
 }

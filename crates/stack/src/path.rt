@@ -31,10 +31,11 @@ pub fn path_sums(ordered: &Ordered, cover: u64, mut sums: [u32; 64]) -> [u32; 64
     ensures { PathSums ordered.now.count ordered.now.rows ordered.now.sizes cover sums result }
 {
     let mut rest = cover;
-    let mut k: usize = 0;
-    while 0 < rest {
+    for k in 0..ordered.count {
+        if rest == 0 {
+            break;
+        }
         let place = usize::from(ordered.order[k]);
-        k += 1;
         if is_set(rest, place) {
             let higher = shared(ordered.rows[place], cover);
             sums[place] = ordered.sizes[place] + largest_at(&sums, higher);

@@ -1,11 +1,11 @@
 -- An accepted table has its transactions, tasks and pairs behind one another, each whole in its image, and each in its list.
 use Prim.Native.Nat.{ℕ, ◌+◌, ◌≤◌, ◌<◌}
-use mathlib.Core.List.{List, []}
+use mathlib.Core.List.{[]}
 use mathlib.Core.Path.{◌≡◌}
 use native.Mathlib.Omega.{arith}
 use lib.ListN.{length, get_or}
 use Rattle.rules.specs.Blocks.{records, record_at, record_count, record_start}
-use Rattle.rules.specs.Records.{transactions, tasks, pairs, task_count, place_of}
+use Rattle.rules.specs.Records.{transactions, tasks, pairs, place_of}
 use Rattle.rules.proofs.Numbers.{length-up_to}
 use Rattle.rules.proofs.Table.Kinds.{length_split}
 use Rattle.rules.proofs.Table.Standing as Standing

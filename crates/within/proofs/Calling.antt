@@ -116,7 +116,7 @@ module _ (t : Tasks) (rows lent : List ℕ) (same : cell rows ≡ related (recor
       }
 
   -- it is not: the answer is that of the bound call, with the count
-  pub found_within : (bounds : BoundsFound) (opened : ℕ) (later : List ℕ) → BoundsWorkedOut rs lent ids (bounds_told (Ok bounds)) later → (tally.left ≡ 0 → ⊥)
+  pub found_within : (bounds : BoundsFound) (opened : ℕ) (later : List ℕ) → BoundsWorkedOut rs lent ids (bounds_told (Ok bounds)) later → 0 < tally.left
       → opened ≡ limit + 1 - tally.left → WithinWorkedOut rs lent ids limit (within_told (Ok (Opened bounds opened))) later
   found_within bounds opened later worked some told =
       let all : opened ≡ counted.count = omega (arith, counted.left) in
@@ -125,7 +125,7 @@ module _ (t : Tasks) (rows lent : List ℕ) (same : cell rows ≡ related (recor
         right = worked.right;
         count = counted.count;
         counted = opens_table;
-        passed = λ h. absurd (some (omega (arith, counted.left)));
+        passed = λ h. absurd (omega (arith, counted.left));
         found = λ h. (
           ap (λ b. with_opened b opened) worked.found.0 ∙ ap (with_opened (bounds_found rs worked.figures)) all,
           worked.found.1,

@@ -10,6 +10,7 @@ use Rattle.image.proofs.Writes.{block_cut, blocks_more}
 use native.Mathlib.Omega.{arith}
 use Rattle.image.proofs.write.write_blocks.Goals as goal
 
+-- no block is written yet
 none : (block : ℕ → List ℕ) (room : List ℕ) → room ≡ over (joined (up_to block 0)) room
 unfolding up_to
 none block room = refl
@@ -25,7 +26,7 @@ loop-b-preserved c =
     let flat = c.args.records.now in
     let inside : loop.b < blocks_of flat = omega arith in
     let last : c.min-to.result ≡ min (480 * loop.b + 480) (length flat) = omega (arith, c.min-to.ensures) in
-    let block : written.new.block ≡ block_of form (cut flat) loop.b = written.ensures ∙ rw (last, c.requires.1.0) (block_cut form flat loop.b c.requires.0 inside) in
+    let block : written.new.block ≡ block_of form (cut flat) loop.b = written.ensures ∙ rw (c.header-front.ensures, last, c.requires.all_blocks) (block_cut form flat loop.b c.requires.whole_records inside) in
     (omega arith, rw (block, loop.invariant.1) (blocks_more form flat c.args.room.now loop.b), omega arith)
 
 pub returns : goal.returns

@@ -1,5 +1,4 @@
 -- Before each turn the room starts with the first b blocks of the image, and the rest is as it was.
--- no block is written yet
 use Prim.Native.Nat.{◌≤◌}
 use mathlib.Core.Path.{◌≡◌}
 use lib.ListN.{length}

@@ -5,6 +5,6 @@ use Rattle.image.proofs.write.write_body.Goals as goal
 
 pub returns : goal.returns
 returns c =
-    body_written c.args.form c.args.total c.args.b c.args.records.now c.requires.0
-    c.args.block.now c.write_header.new.block c.copy_from_slice.new.self c.fill.new.self
-    c.write_header.ensures (omega arith) c.copy_from_slice.ensures.after (omega arith) (c.fill.ensures.after (λ y same. same))
+    body_written c.args.header.now c.args.records.now (omega arith) c.requires.few_records
+    c.args.block.now c.copy_from_slice.new.self c.copy_from_slice-2.new.self c.fill.new.self
+    c.requires.one_block c.copy_from_slice.ensures.after c.copy_from_slice-2.ensures.after (c.fill.ensures.after (λ y same. same))

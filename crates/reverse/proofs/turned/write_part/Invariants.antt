@@ -5,4 +5,4 @@ use Rattle.reverse.proofs.Growing.{Growing}
 use Rattle.reverse.proofs.turned.write_part.Given as goal
 
 abbrev pub invariant-loop-place : goal.invariant-loop-place
-invariant-loop-place l = Growing (records l.patch) (way_number l.way) l.from l.to l.before l.place l.written l.initial.flat l.flat
+invariant-loop-place l = Growing (records l.patch.image.now) (way_number l.way) l.from l.to l.before l.place l.written l.initial.flat l.flat

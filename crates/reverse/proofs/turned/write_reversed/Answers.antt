@@ -9,18 +9,20 @@ use Rattle.reverse.proofs.Reversing.{first_inside, patch_few, reverse_parts}
 use Rattle.reverse.proofs.turned.write_reversed.Goals as goal
 
 pub first_put_in-first-requires : goal.first_put_in-first-requires
-first_put_in-first-requires c = patch_held c.args.patch.now c.requires.patch_value
+first_put_in-first-requires c = let patch = c.args.patch.now in patch_held patch.image.now patch.accepted
 
 pub write_part-written-requires : goal.write_part-written-requires
 write_part-written-requires c =
-    let patch = c.args.patch.now in record { patch_value = c.requires.patch_value; from_le_to = omega (arith, patch_few patch c.requires.patch_value, first_inside patch) }
+    let patch = c.args.patch.now in
+    omega (arith, patch_few patch, first_inside patch.image.now)
 
 pub write_part-requires : goal.write_part-requires
 write_part-requires c =
     let patch = c.args.patch.now in
-    let size = simp (length-with_way, length-take, length-drop) at c.write_part-written.ensures.size in record { patch_value = c.requires.patch_value; from_le_to = omega (arith, patch_few patch c.requires.patch_value, first_inside patch, as_many patch, size) }
+    let size = simp (length-with_way, length-take, length-drop) at c.write_part-written.ensures.size in
+    omega (arith, patch_few patch, first_inside patch.image.now, as_many patch.image.now, size)
 
 pub returns : goal.returns
 returns c =
     behind_both _ _ _ _ _ _ _ _ _ c.write_part-written.ensures c.write_part.ensures
-    (reverse_parts c.args.patch.now c.requires.patch_value (λ k. (c.type_inv.patch k).fits) _ _ c.first_put_in-first.ensures c.record_count-count.ensures)
+    (reverse_parts c.args.patch.now _ _ c.first_put_in-first.ensures c.record_count-count.ensures)

@@ -1,7 +1,7 @@
 -- What the digits that are left say behind the number is what all of them say.
-use Rattle.std.proofs.Common.{◌≡◌, ◌≤◌, drop}
-use Rattle.room.specs.Digits.{said_behind, said}
+use Rattle.std.proofs.Common.{◌≡◌, ◌<◌, drop}
+use Rattle.room.specs.Digits.{none, said_behind, said}
 use Rattle.room.proofs.argument.number_of.Given as goal
 
 abbrev pub invariant-loop-digit : goal.invariant-loop-digit
-invariant-loop-digit l = (l.number ≤ 4294967296) × (said_behind l.number (drop l.digit-index l.digits) ≡ said l.digits)
+invariant-loop-digit l = record { is_reserve : l.number < none; said_by_all : said_behind l.number (drop l.digit-index l.digits) ≡ said l.digits }

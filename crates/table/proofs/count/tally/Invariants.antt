@@ -1,6 +1,6 @@
 -- The loop keeps that each of the eight counts is that of the records passed.
 -- one more record is counted where it belongs, and nowhere else
-use Prim.Native.Nat.{ℕ, ◌-◌, ◌≤◌, ◌<◌}
+use Prim.Native.Nat.{ℕ, ◌<◌}
 use mathlib.Core.Path.{◌≡◌}
 use lib.ListN.{length, get_or}
 use Rattle.rules.specs.Blocks.{records}

@@ -1,10 +1,9 @@
 use borrow.Author.Tests.{lt-ltb, le-leb, lt-leb}
 use mathlib.Core.Bool.{true, false}
-use Prim.Native.Nat.{ℕ, ◌+◌, ◌-◌, ◌≤◌, ◌<◌}
+use Prim.Native.Nat.{ℕ, ◌+◌, ◌-◌, ◌<◌}
 use mathlib.Core.Path.{◌≡◌, refl, sym, ap, ◌∙◌}
 use mathlib.Core.List.{List, []}
 use lib.ListN.{get_or}
-use Rattle.rules.specs.Numbers.{lowest}
 use Rattle.rules.specs.Blocks.{records, record_at, record_count}
 use Rattle.rules.specs.Records.{image_key}
 use Rattle.rules.specs.Refusals.{order_wrong}

@@ -1,5 +1,5 @@
 -- The loop keeps the rows with the cells of the pairs passed; each pair adds its cell where it is of the sort.
-use Prim.Native.Nat.{◌+◌, ◌-◌, ◌≤◌}
+use Prim.Native.Nat.{◌+◌, ◌≤◌}
 use mathlib.Core.Path.{◌≡◌}
 use Rattle.rules.specs.Records.{task_count}
 use Rattle.rules.specs.Blocks.{records, record_count}

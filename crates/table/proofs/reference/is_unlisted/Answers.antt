@@ -1,6 +1,6 @@
 -- An id that has no place among those of the tasks is not listed.
-use mathlib.Core.Bool.{Bool, not, not-not}
-use mathlib.Core.Path.{◌≡◌, sym, ap, ◌∙◌}
+use mathlib.Core.Bool.{not-not}
+use mathlib.Core.Path.{◌∙◌}
 use Rattle.rules.specs.Blocks.{records}
 use Rattle.rules.specs.Records.{tasks}
 use Rattle.table.proofs.Places.{found_listed, place_in}

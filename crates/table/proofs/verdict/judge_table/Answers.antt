@@ -2,7 +2,7 @@
 use mathlib.Core.List.{List, []}
 use Prim.Native.Nat.{ℕ}
 use mathlib.Core.Bool.{true, false}
-use mathlib.Core.Path.{◌≡◌, refl, sym, ◌∙◌}
+use mathlib.Core.Path.{◌≡◌}
 use Rattle.rules.specs.declared.Form.TheVariants.{Table}
 use Rattle.rules.specs.declared.Verdict.{Verdict}
 use Rattle.rules.specs.Blocks.{records}
@@ -10,7 +10,7 @@ use Rattle.rules.specs.Refusals.{accepted, fine, or_else, frame_verdict, records
 use Rattle.rules.proofs.Judged.{is_refused}
 use Rattle.table.specs.Judged.{Judges, earlier_verdict}
 use Rattle.table.proofs.Counts.{records_few, records_held}
-use Rattle.table.proofs.Judging.{handed_on, judges_first, judges_second}
+use Rattle.table.proofs.Judging.{handed_on, judges_first}
 use Rattle.table.proofs.verdict.judge_table.Goals as goal
 
 module _ (image rows later : List ℕ) (told : Verdict) where

@@ -1,6 +1,6 @@
 -- A refused frame hides what comes after it.
 use mathlib.Core.Bool.{true}
-use mathlib.Core.Path.{◌≡◌, refl, sym, ◌∙◌}
+use mathlib.Core.Path.{◌≡◌}
 use Rattle.rules.specs.declared.Form.TheVariants.{Patch}
 use Rattle.rules.specs.Refusals.{accepted, frame_verdict, patch_verdict}
 use Rattle.rules.proofs.Judged.{is_refused}

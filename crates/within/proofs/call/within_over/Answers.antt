@@ -1,14 +1,7 @@
 -- Each way out is one of the two answers where the bounds are asked.
-use Rattle.std.proofs.Common.{sym, ◌∙◌}
-use native.Mathlib.Omega.{arith}
-use borrow.Author.Tests.{eqb-true, eqb-false}
+use Rattle.within.proofs.Counting.{none_left, some_left}
 use Rattle.within.proofs.Calling.{given_up, found_within}
 use Rattle.within.proofs.call.within_over.Goals as goal
-
-pub tally_chains-tally-requires : goal.tally_chains-tally-requires
-tally_chains-tally-requires c =
-    let ordered = c.ordered-ordered.ensures in
-    record { climbs = rw (ordered.count, ordered.rows) (c.args.tasks.now.columns.priorities, c.requires.rises) }
 
 pub returns-then-is_spent : goal.returns-then-is_spent
 returns-then-is_spent c lent same =
@@ -20,10 +13,7 @@ returns-then-is_spent c lent same =
     c.path_bound-path.result c.transaction_bound-transactions.result
     (rw (ordered.count, ordered.rows, ordered.sizes) at c.path_bound-path.ensures)
     (rw (ordered.count, ordered.rows, ordered.sizes) at c.transaction_bound-transactions.ensures)
-    (eqb-true _ _ (sym c.is_spent.ensures ∙ c.if-is_spent.true))
-
-pub opened-requires : goal.opened-requires
-opened-requires c = record { in_bounds = (omega (arith, eqb-false _ _ (sym c.is_spent.ensures ∙ c.if-is_spent.false)), omega (arith, c.tally_chains-tally.ensures.left)) }
+    (none_left c.is_spent.ensures c.if-is_spent.true)
 
 pub returns : goal.returns
 returns c lent same =
@@ -33,4 +23,4 @@ returns c lent same =
     found_within tasks c.args.prepared.now.rows lent same c.args.ids.now c.args.limit tally.result
     (rw (ordered.count, ordered.rows, ordered.sizes) at tally.ensures)
     c.bounds_over.result c.opened.result c.bounds_over.new.ids (c.bounds_over.ensures lent same)
-    (eqb-false _ _ (sym c.is_spent.ensures ∙ c.if-is_spent.false)) c.opened.ensures
+    (some_left c.is_spent.ensures c.if-is_spent.false) c.opened.ensures
