@@ -1,5 +1,5 @@
 // The patch call: base, patch and base map are read, a room for the image and a room for the map are written.
-ghost use Rattle.std.specs.Prelude.{◌≡◌, false, [], ◌||◌, ◌≤◌, ltb, length, replicate, MatchOption, IfOk, IfErr};
+ghost use Rattle.std.specs.Prelude.{◌≡◌, false, ◌||◌, ◌≤◌, ltb, length, replicate, IfOk, IfErr};
 ghost use Rattle.rules.specs.Blocks.{records};
 ghost use Rattle.rules.specs.Calls.{over, PatchCall, Offends};
 ghost use Rattle.rules.specs.Refusals.{accepted, table_verdict};
@@ -95,13 +95,13 @@ pub fn apply_patch(
     apply_in(&change, map, room, carried, &mut space)
 }
 
-// With refusal 9 the 32 bytes of the patch image that it refuses.
+// The 32 bytes of refusal 9 as a part of the patch image, and an empty part where a call answers anything else.
 #[tactic(auto, using(crate::proofs::Calling::call_verdicts))]
-pub fn offending_part<'a>(base: &[u8], patch: &'a [u8]) -> Option<&'a [u8]>
-    ensures { MatchOption result (Offends base.now patch.now []) (λ part. Offends base.now patch.now part.now) }
+pub fn offending_part<'a>(base: &[u8], patch: &'a [u8]) -> &'a [u8]
+    ensures { Offends base.now patch.now result.now }
 {
     match verdict_of_both(base, patch) {
-        Err(Refusal::Absent(place)) => Some(record_part(patch, place as usize)),
-        _ => None,
+        Err(Refusal::Absent(place)) => record_part(patch, place as usize),
+        _ => &patch[0..0],
     }
 }

@@ -1,10 +1,11 @@
 // The carried map: only cells with a touched task are decided again, any other is the lent map's.
 ghost use Rattle.std.specs.Prelude.{◌≡◌, ◌≤◌, ◌<◌, length, get_or};
 ghost use Rattle.rules.specs.Blocks.{records};
-ghost use Rattle.rules.specs.Records.{tasks as Records·tasks, place_of};
+ghost use Rattle.rules.specs.Records.{tasks as Records·tasks, place_of as Records·place_of};
 ghost use Rattle.rules.specs.Preempt.{row_from, map_from, bit_at};
 ghost use Rattle.rules.specs.Patches.{outcome as Patches·outcome};
 ghost use Rattle.sets.specs.Bits.{column};
+ghost use Rattle.table.specs.Numbers.{Directory};
 ghost use Rattle.table.specs.Precedence.{before_map};
 ghost use Rattle.patch.specs.Carried.{cell_carried, cell_new, MapCarried};
 
@@ -12,10 +13,10 @@ use crate::change::Change;
 use crate::related::{Related, relate};
 use crate::touched::{count_places, touched_tasks};
 use preempt::map::{decided_row, may_preempt_at};
-use preempt::tasks::task_place;
 use sets::bits::is_set;
 use sets::places::{by_place, places_where};
 use table::accepted::Table;
+use table::place::{numbers_from, place_of};
 
 // The new map, and how many tasks are touched.
 #[derive(Drop)]
@@ -32,19 +33,30 @@ pub struct Standing<'a> {
     pub old: [u32; 64],
 }
 
-// Where the base has the task with an id; the number of its tasks where it has none.
-fn old_place(base: &Table, id: u32) -> u32
-    ensures { result ≡ place_of (Records·tasks (records base.now.image.now)) id }
+// The ids of a table's tasks, in a list that is searched by halving.
+fn ids_of(table: &Table) -> [u32; 64]
+    ensures { Directory (Records·tasks (records table.now.image.now)) result table.now.tasks }
 {
-    task_place(base, id).unwrap_or(base.tasks) as u32
+    numbers_from(table.image, table.transactions, table.tasks)
 }
 
-// Where the base has the tasks of the outcome.
-fn old_places(base: &Table, related: &Related) -> [u32; 64]
-    ensures { result ≡ column related.now.tasks.table.tasks (λ i. place_of (Records·tasks (records base.now.image.now)) (get_or related.now.tasks.columns.ids i 0)) }
+// Where the base, whose tasks have these ids, has the task with an id; the number of its tasks where it has none.
+fn old_place(base: &Table, base_ids: &[u32; 64], id: u32) -> u32
+    requires { Directory (Records·tasks (records base.now.image.now)) base_ids.now base.now.tasks }
+    ensures { result ≡ Records·place_of (Records·tasks (records base.now.image.now)) id }
 {
+    place_of(base_ids, base.tasks, id).unwrap_or(base.tasks) as u32
+}
+
+// Where the base has the tasks of the outcome. Its ids are read once for all of them.
+fn old_places(base: &Table, related: &Related) -> [u32; 64]
+    ensures { result ≡ column related.now.tasks.table.tasks (λ i. Records·place_of (Records·tasks (records base.now.image.now)) (get_or related.now.tasks.columns.ids i 0)) }
+{
+    let base_ids = ids_of(base);
     let ids = &related.tasks.columns.ids;
-    by_place(related.tasks.table.tasks, 0, |i| old_place(base, ids[i]))
+    by_place(related.tasks.table.tasks, 0, |i| {
+        old_place(base, &base_ids, ids[i])
+    })
 }
 
 // The row of a lent map at a place. A row that it does not have is 0.
@@ -55,6 +67,7 @@ fn base_row(rows: &[u64], place: u32) -> u64
 }
 
 // Whether a row has a cell set. It has none beyond 64 cells.
+#[tactic(auto, using(crate::proofs::Carrying::no_such_cell))]
 fn is_cell_set(bits: u64, place: u32) -> bool
     ensures { result ≡ bit_at bits place }
 {
@@ -65,6 +78,7 @@ fn is_cell_set(bits: u64, place: u32) -> bool
 impl<'a> Standing<'a> {
     // Whether cell j is set in the new row i of a task that is not touched: with a touched task it is decided, and any other is
     // that of the base's row, which has it where the other task stood.
+    #[tactic(auto, unfolding(crate::specs::Carried::cell_carried))]
     fn is_carried_set(&self, row: u64, i: usize, j: usize) -> bool
         requires { (i < 64) × (j < 64) }
         ensures { result ≡ cell_carried self.now row i j }

@@ -39,13 +39,6 @@ impl Iterator for Places {
     }
 }
 
-// A place, as a number to index with.
-pub fn index_of(place: u8) -> usize
-    ensures { result ≡ place }
-{
-    place as usize
-}
-
 // The places that two sets share.
 pub fn shared(a: u64, b: u64) -> u64
     ensures { Shared a b result }

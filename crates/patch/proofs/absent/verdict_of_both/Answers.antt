@@ -1,1 +1,0 @@
--- Each check that is passed is accepted, and the next one answers.
