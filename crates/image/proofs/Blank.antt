@@ -1,6 +1,6 @@
 -- Bytes are blank where each of those that the list has is 0: what lies past its end reads as 0.
 use Prim.Native.Nat.{ℕ, zero, suc, ◌+◌, ◌≤◌}
-use mathlib.Core.Bool.{Bool, true, false, ◌&&◌, ◌||◌, not}
+use mathlib.Core.Bool.{Bool, true, false, ◌&&◌, not}
 use mathlib.Core.List.{List}
 use mathlib.Core.Path.{◌≡◌, refl, sym, ap, ◌∙◌}
 use native.Mathlib.Numerals.{add-one}
@@ -10,29 +10,32 @@ use lib.Dec.{ltb, eqb}
 use lib.ListN.{length, get_or, take, drop, length-drop, get_or-eq_default}
 use lib.Seq.{take_all}
 use Rattle.std.proofs.Common.{nat_eq}
+use Rattle.std.proofs.Math.Bool.{and-true}
 use Rattle.std.specs.List.{list_all}
 use Rattle.std.proofs.lemmas.List.{get_or-drop}
 use Rattle.std.proofs.lemmas.List.Folds.{list_all_more}
+use Rattle.rules.proofs.Tests.{not_either}
 use Rattle.rules.specs.Numbers.{blank, lowest}
 use Rattle.rules.proofs.Numbers.{either, some_more}
 
-not_either : (a b : Bool) → not (a || not b) ≡ (not a && b)
-not_either true b = refl
-not_either false true = refl
-not_either false false = refl
+-- twice the other is the same
+not_twice : (a : Bool) → not (not a) ≡ a
+not_twice true = refl
+not_twice false = refl
 
+-- one more byte
 blank_more : (s : List ℕ) (start n : ℕ) → blank s start (n + 1) ≡ (blank s start n && eqb (get_or s (start + n) 0) 0)
 unfolding blank
-blank_more s start n = rw (some_more (λ k. not (eqb (get_or s (start + k) 0) 0)) n) (not_either _ (eqb (get_or s (start + n) 0) 0))
+blank_more s start n =
+    let last : Bool = eqb (get_or s (start + n) 0) 0 in
+    rw (some_more (λ k. not (eqb (get_or s (start + k) 0) 0)) n, not_either _ (not last), not_twice last)
 
-and_true : (a : Bool) → (a && true) ≡ a
-and_true true = refl
-and_true false = refl
-
+-- no byte
 blank_none : (s : List ℕ) (start : ℕ) → true ≡ blank s start 0
 unfolding blank lowest
 blank_none s start = refl
 
+-- the bytes that the list has, as `all` goes through them
 pub blank_part : (s : List ℕ) (start n : ℕ) → list_all (λ b. nat_eq b 0) (take n (drop start s)) ≡ blank s start n
 blank_part s start zero = blank_none s start
 blank_part s start (suc n) =
@@ -42,4 +45,4 @@ blank_part s start (suc n) =
     (λ t.
     let past : length part ≤ n = ltb-false n (length part) t in
     let zero_behind : get_or s (start + n) 0 ≡ 0 = get_or-eq_default s 0 (omega (arith, length-drop start s)) in
-    rw (← add-one, take_all (n + 1) part (omega arith)) (ap (list_all (λ b. nat_eq b 0)) (sym (take_all n part past)) ∙ blank_part s start n ∙ sym (blank_more s start n ∙ rw (zero_behind, and_true (blank s start n)))))
+    rw (← add-one, take_all (n + 1) part (omega arith)) (ap (list_all (λ b. nat_eq b 0)) (sym (take_all n part past)) ∙ blank_part s start n ∙ sym (blank_more s start n ∙ rw (zero_behind, and-true (blank s start n)))))

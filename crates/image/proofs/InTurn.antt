@@ -56,11 +56,13 @@ module _ (image other : List ℕ) where
 
 -- what is left of an image's records, one record further and at the end
 module _ (image : List ℕ) (next count : ℕ) where
+  -- the next record comes first
   pub left_more : next < count → records_left image next count ≡ record_at image next ∷ records_left image (next + 1) count
   left_more inside =
       drop_more (up_to (record_at image) count) next [] (omega (arith, length-up_to (record_at image) count))
       ∙ rw (get_or-up_to (record_at image) count next [] inside)
 
+  -- at the end none is left
   pub left_none : count ≤ next → records_left image next count ≡ []
   left_none past = drop_of_length-le (up_to (record_at image) count) {i = next} (omega (arith, length-up_to (record_at image) count))
 

@@ -9,6 +9,7 @@ use lib.Seq.{take-nil, take_all}
 use lib.Dec.{leb}
 use Rattle.rules.proofs.Numbers.{either}
 
+-- its end less its start
 pub part_size : (s : List ℕ) (start size : ℕ) → take ((start + size) - start) (drop start s) ≡ take size (drop start s)
 part_size s start size =
     let e : (start + size) - start ≡ size = omega arith in

@@ -15,8 +15,8 @@ pub fn check_of(block: &[u8]) -> u32
 {
     let mut sum: u32 = 0;
     let mut sums: u32 = 0;
-    for i in 0..510 {
-        sum += u32::from(block[i]);
+    for byte in &block[..510] {
+        sum += u32::from(*byte);
         sums += sum;
     }
     (511 * sum - sums) % 65521

@@ -9,7 +9,7 @@ use lib.ListN.{length, get_or}
 use Rattle.rules.specs.Numbers.{count_to}
 use Rattle.rules.specs.Blocks.{records}
 use Rattle.rules.specs.Records.{number_of, second_of, tasks, task_at, place_of}
-use Rattle.rules.specs.Preempt.{map_from, bit_at}
+use Rattle.rules.specs.Preempt.{beside, map_from, bit_at}
 use Rattle.rules.specs.Patches.{outcome, alongside, touched, touched_count, old_place, carried, patched_map}
 use Rattle.rules.proofs.Numbers.{sum_to_ext, some_ext}
 use Rattle.rules.proofs.Bits.{bit_lacks}
@@ -22,8 +22,8 @@ use Rattle.sets.specs.Bits.{column}
 use Rattle.preempt.specs.declared.columns.Columns.{Columns}
 use Rattle.preempt.specs.Tasks.{TasksRead}
 use Rattle.sets.proofs.Columns.{column_at}
-use Rattle.preempt.proofs.Reading.{few_read, ids_directory, id_is, transaction_is, decided_read}
-use Rattle.patch.specs.Touched.{Marks, along_in, touched_in, touched_at}
+use Rattle.preempt.proofs.Reading.{few_read, id_is, transaction_is, decided_read}
+use Rattle.patch.specs.Touched.{Marks, beside_in, along_in, touched_in, touched_at}
 use Rattle.patch.specs.declared.carried.Standing.{Standing}
 use Rattle.patch.specs.Carried.{cell_new}
 use Rattle.patch.proofs.Along.{beside_found}
@@ -33,7 +33,7 @@ pub no_such_cell : (row place : ℕ) → row < 2 ^ 64 → 64 ≤ place → bit_a
 no_such_cell row place small beyond = bit_lacks row place (omega (arith, pow_mono {j = place} beyond))
 
 -- base and patch, what stands for their outcome, and which tasks are touched
-module _ (base patch : List (List ℕ)) (s : Standing) (made : records s.related.tasks.table.image.now ≡ outcome base patch) (before : Listed base) (marked : Marks s.related.tasks.table.tasks (touched_at patch s.related.tasks.columns.ids s.related.tasks.columns.transactions s.related.tasks.table.tasks s.related.beside) s.touched) (placed : s.old ≡ column s.related.tasks.table.tasks (λ i. place_of (tasks base) (get_or s.related.tasks.columns.ids i 0))) where
+module _ (base patch : List (List ℕ)) (s : Standing) (made : records s.related.tasks.table.image.now ≡ outcome base patch) (before : Listed base) (marked : Marks s.related.tasks (touched_at patch s.related) s.touched) (placed : s.old ≡ column s.related.tasks.table.tasks (λ i. place_of (tasks base) (get_or s.related.tasks.columns.ids i 0))) where
   -- how many tasks the outcome has, and their columns
   abbrev count : ℕ
   count = s.related.tasks.table.tasks
@@ -52,17 +52,17 @@ module _ (base patch : List (List ℕ)) (s : Standing) (made : records s.related
   read = rw made at s.related.tasks.read
 
   -- the tasks along the paths of a record
-  along_read : (p : List ℕ) (i : ℕ) → i < count → along_in columns.ids count s.related.beside p i ≡ alongside (outcome base patch) p (task_at (outcome base patch) i).id
+  along_read : (p : List ℕ) (i : ℕ) → i < count → along_in s.related p i ≡ alongside (outcome base patch) p (task_at (outcome base patch) i).id
   along_read p i h =
-      let found = beside_found (outcome base patch) columns.ids count s.related.beside shaped.few_tasks after (ids_directory (outcome base patch) count columns shaped read) (rw made at s.related.paths) in
-      rw (found (number_of p) i h, found (second_of p) i h)
+      let found : (x : ℕ) → beside_in s.related x i ≡ beside (outcome base patch) (task_at (outcome base patch) i).id x = λ x. rw made at (beside_found s.related x i h) in
+      rw (found (number_of p), found (second_of p))
 
   -- a place is in the set where its task is touched
   touched_read : (i : ℕ) → i < count → bit_at s.touched i ≡ touched base patch i
   touched_read i h =
       let task = task_at (outcome base patch) i in
       marked i h
-      ∙ some_ext (λ k. touched_in columns.ids columns.transactions count s.related.beside (get_or patch k []) i) (λ k. touched_by (outcome base patch) (get_or patch k []) task.id task.transaction) (length patch)
+      ∙ some_ext (λ k. touched_in s.related (get_or patch k []) i) (λ k. touched_by (outcome base patch) (get_or patch k []) task.id task.transaction) (length patch)
       (λ k l. rw (along_read (get_or patch k []) i h, id_is (outcome base patch) count columns shaped read i, transaction_is (outcome base patch) count columns shaped read i))
       ∙ sym (touched-after base patch before after i)
 

@@ -1,10 +1,9 @@
 // Touched tasks, as a set of places: those that a patch record concerns, and those along the paths of a precedence pair.
-ghost use Rattle.std.specs.Prelude.{◌≡◌, ◌≤◌, eqb, get_or};
+ghost use Rattle.std.specs.Prelude.{◌≡◌, ◌≤◌};
 ghost use Rattle.rules.specs.Numbers.{count_to};
 ghost use Rattle.rules.specs.Blocks.{records};
-ghost use Rattle.rules.specs.Patches.{concerns};
 ghost use Rattle.rules.specs.Preempt.{bit_at};
-ghost use Rattle.patch.specs.Touched.{Marks, beside_in, along_in, touched_in, touched_at};
+ghost use Rattle.patch.specs.Touched.{Marks, has_id, concerns_at, beside_in, along_in, touched_in, touched_at};
 
 use crate::related::Related;
 use image::bytes::{byte_at, two_bytes};
@@ -19,7 +18,7 @@ use table::place::place_of;
 // The task with an id, or none.
 #[tactic(auto, using(crate::proofs::Touching::finding))]
 fn task_with(tasks: &Tasks, id: u32) -> u64
-    ensures { Marks tasks.now.table.tasks (λ i. eqb id (get_or tasks.now.columns.ids i 0)) result }
+    ensures { Marks tasks.now (has_id tasks.now id) result }
 {
     match place_of(&tasks.columns.ids, tasks.table.tasks, id) {
         Some(place) => power(place),
@@ -29,7 +28,7 @@ fn task_with(tasks: &Tasks, id: u32) -> u64
 
 // The tasks that a patch record concerns.
 fn concerned(tasks: &Tasks, fields: &[u8]) -> u64
-    ensures { Marks tasks.now.table.tasks (λ i. concerns fields.now (get_or tasks.now.columns.ids i 0) (get_or tasks.now.columns.transactions i 0)) result }
+    ensures { Marks tasks.now (concerns_at tasks.now fields.now) result }
 {
     let number = two_bytes(fields, 2);
     match Kind::try_from(byte_at(fields, 0)) {
@@ -46,7 +45,7 @@ fn concerned(tasks: &Tasks, fields: &[u8]) -> u64
 // The tasks that come before or after the one with an id, where a task has it.
 #[tactic(auto, using(crate::proofs::Touching::finding))]
 fn tasks_beside(related: &Related, id: u32) -> u64
-    ensures { Marks related.now.tasks.table.tasks (beside_in related.now.tasks.columns.ids related.now.tasks.table.tasks related.now.beside id) result }
+    ensures { Marks related.now.tasks (beside_in related.now id) result }
 {
     let tasks = &related.tasks;
     match place_of(&tasks.columns.ids, tasks.table.tasks, id) {
@@ -57,7 +56,7 @@ fn tasks_beside(related: &Related, id: u32) -> u64
 
 // The tasks along the paths of a patch record: those before or after one of its two, where it is a precedence pair.
 fn tasks_along(related: &Related, fields: &[u8]) -> u64
-    ensures { Marks related.now.tasks.table.tasks (along_in related.now.tasks.columns.ids related.now.tasks.table.tasks related.now.beside fields.now) result }
+    ensures { Marks related.now.tasks (along_in related.now fields.now) result }
 {
     if byte_at(fields, 0) != u32::from(Kind::Pair) {
         return 0;
@@ -72,7 +71,7 @@ fn tasks_along(related: &Related, fields: &[u8]) -> u64
 
 // The tasks that a patch record touches.
 fn touched_by(related: &Related, fields: &[u8]) -> u64
-    ensures { Marks related.now.tasks.table.tasks (touched_in related.now.tasks.columns.ids related.now.tasks.columns.transactions related.now.tasks.table.tasks related.now.beside fields.now) result }
+    ensures { Marks related.now.tasks (touched_in related.now fields.now) result }
 {
     union(
         concerned(&related.tasks, fields),
@@ -82,7 +81,7 @@ fn touched_by(related: &Related, fields: &[u8]) -> u64
 
 // The tasks of the outcome that some record of the patch touches. Along the paths of the base no other task is touched.
 pub fn touched_tasks(patch: &Patch, related: &Related) -> u64
-    ensures { Marks related.now.tasks.table.tasks (touched_at (records patch.now.image.now) related.now.tasks.columns.ids related.now.tasks.columns.transactions related.now.tasks.table.tasks related.now.beside) result }
+    ensures { Marks related.now.tasks (touched_at (records patch.now.image.now) related.now) result }
 {
     let mut set: u64 = 0;
     for place in 0..record_count(patch.image) {

@@ -57,6 +57,7 @@ fn timing_of(period: u32, low: Task, high: Task) -> Reason
 }
 
 // Why the first task may be preempted by the second, or why not, by equation (8).
+#[tactic(auto, unfolding(rules::specs::Preempt::reason))]
 pub fn reason_of(period: u32, barred: bool, low: Task, high: Task) -> Reason
     ensures { result ≡ reason period barred low high }
 {
@@ -80,6 +81,7 @@ fn sets_cell(reason: Reason) -> bool
 }
 
 // Whether the first task may be preempted by the second: the reason is one that sets a cell.
+#[tactic(auto, unfolding(rules::specs::Preempt::may_preempt))]
 pub fn may_preempt(period: u32, barred: bool, low: Task, high: Task) -> bool
     ensures { result ≡ may_preempt period barred low high }
 {

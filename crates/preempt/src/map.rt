@@ -20,6 +20,7 @@ use table::accepted::Table;
 use table::judge_table;
 
 // Whether the task at place i may be preempted by the one at place j; bars holds the places that are barred from it.
+#[tactic(auto, unfolding(crate::specs::Tasks::decided_on))]
 pub fn may_preempt_at(columns: &Columns, bars: u64, i: usize, j: usize) -> bool
     requires { (i < 64) × (j < 64) }
     ensures { result ≡ decided_on columns.now bars i j }

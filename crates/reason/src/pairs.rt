@@ -27,6 +27,14 @@ fn is_forbidden(table: &Table, low: u32, high: u32) -> bool
     (0..table.pairs).any(|k| forbids(table.pair_record(k), low, high))
 }
 
+// The id of the task at a place.
+fn id_at(table: &Table, place: usize) -> u32
+    requires { place < table.now.tasks }
+    ensures { result ≡ (task_at (records table.now.image.now) place).id }
+{
+    two_bytes(table.task_record(place), 2)
+}
+
 // Whether one of the tasks at two places comes before the other, by rows of which come before which.
 fn is_beside(before: &[u64; 64], i: usize, j: usize) -> bool
     requires { (i < 64) × (j < 64) }
@@ -35,13 +43,11 @@ fn is_beside(before: &[u64; 64], i: usize, j: usize) -> bool
     is_set(before[i], j) || is_set(before[j], i)
 }
 
-// Whether the task at place i, with the id low, may not be preempted by the one at place j, with the id high. The rows of before say
-// which tasks come before which.
-pub fn is_barred(table: &Table, before: &[u64; 64], i: usize, j: usize, low: u32, high: u32) -> bool
+// Whether the task at place i may not be preempted by the one at place j. The rows of before say which tasks come before which.
+pub fn is_barred(table: &Table, before: &[u64; 64], i: usize, j: usize) -> bool
     requires before_known { before.now ≡ before_map (records table.now.image.now) }
     requires in_bounds { (i < table.now.tasks) × (j < table.now.tasks) }
-    requires ids { (low ≡ (task_at (records table.now.image.now) i).id) × (high ≡ (task_at (records table.now.image.now) j).id) }
-    ensures { result ≡ barred (records table.now.image.now) low high }
+    ensures { result ≡ barred (records table.now.image.now) (task_at (records table.now.image.now) i).id (task_at (records table.now.image.now) j).id }
 {
-    is_beside(before, i, j) || is_forbidden(table, low, high)
+    is_beside(before, i, j) || is_forbidden(table, id_at(table, i), id_at(table, j))
 }

@@ -12,6 +12,7 @@ use table::accepted::Table;
 
 // Why the task at place i may be preempted by the one at place j, or why not, in an accepted table of whose tasks before says which
 // come before which.
+#[tactic(auto, unfolding(rules::specs::Preempt::reason_at))]
 pub fn reason_at(table: &Table, before: &[u64; 64], i: usize, j: usize) -> Reason
     requires before_known { before.now ≡ before_map (records table.now.image.now) }
     requires in_bounds { (i < table.now.tasks) × (j < table.now.tasks) }
@@ -20,6 +21,6 @@ pub fn reason_at(table: &Table, before: &[u64; 64], i: usize, j: usize) -> Reaso
     let period = period_at(table, i);
     let low = task_at(table, i, period);
     let high = task_at(table, j, period_at(table, j));
-    let barred = is_barred(table, before, i, j, low.id, high.id);
+    let barred = is_barred(table, before, i, j);
     reason_of(period, barred, low, high)
 }

@@ -1,4 +1,4 @@
-// Operations on sets of places, and a place to index with.
+// Operations on sets of places, and what is asked of each place.
 ghost use Rattle.std.specs.Prelude.{◌≡◌, ℕ, Bool, true, ◌≤◌, ◌<◌, length};
 ghost use Rattle.std.specs.Int.Bits.{bit_or};
 ghost use Rattle.rules.specs.Preempt.{row_from, bit_at};
@@ -37,13 +37,6 @@ impl Iterator for Places {
         self.rest = without(self.rest, place);
         Some(place)
     }
-}
-
-// A place, as a number to index with.
-pub fn index_of(place: u8) -> usize
-    ensures { result ≡ place }
-{
-    place as usize
 }
 
 // The places that two sets share.

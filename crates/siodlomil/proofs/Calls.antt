@@ -6,7 +6,9 @@ use Prim.Native.Nat.{ℕ}
 use mathlib.Core.List.{List, []}
 use mathlib.Core.Path.{◌≡◌, ap, sym, ◌∙◌}
 use native.Mathlib.Omega.{arith}
-use borrow.Author.Tests.{eq-eqb, ne_eqb}
+use borrow.Author.Tests.{eqb-true}
+use lib.Dec.{eqb}
+use Rattle.rules.proofs.Numbers.{either}
 use Rattle.rules.specs.declared.Verdict.{Verdict}
 use Rattle.rules.specs.declared.Offending.{Offending}
 use Rattle.rules.specs.Blocks.{record_start}
@@ -23,27 +25,25 @@ stands_both : (base patch rows room new_rows : List ℕ) → stands_at (patch_ca
 stands_both base patch rows room new_rows =
     only_nine base patch rows room new_rows (λ v. record { at = record_start v.place; length = 32 }) (record { at = 0; length = 0 })
 
--- a verdict of the checks that need no outcome, and where it points
+-- the verdict of the checks that need no outcome, and where it points
 module _ (base patch : List ℕ) (v : Verdict) (both : v ≡ both_verdict base patch) where
-  -- refusal 9
-  pub offends : v.number ≡ 9 → (start : ℕ) → start ≡ record_start v.place → OffendsAt base patch (record { at = start; length = 32 })
-  offends h start e =
-      let number : (both_verdict base patch).number ≡ 9 = ap (λ (w : Verdict). w.number) (sym both) ∙ h in
-      let place : start ≡ record_start (both_verdict base patch).place = e ∙ ap (λ (w : Verdict). record_start w.place) both in
-      let nine = eq-eqb (both_verdict base patch).number 9 number in
-      rw place
+  -- the part that it points to is the offending part, and lies in the patch
+  pub stands_offends : (answer : Offending) → answer ≡ stands_at v → OffendsAt base patch answer
+  stands_offends answer stands =
+      let pointed : answer ≡ stands_at (both_verdict base patch) = stands ∙ ap stands_at both in
+      rw pointed
+      (either (eqb (both_verdict base patch).number 9)
+      (λ nine.
+      rw nine
       (record {
         stands = λ rows room new_rows. sym (stands_both base patch rows room new_rows ∙ rw nine);
         part = λ rows room new_rows. sym (offending_number base patch rows room new_rows ∙ rw nine);
-        inside = nine_inside base patch number;
-      })
-
-  -- anything else
-  pub offends_not : (v.number ≡ 9 → ⊥) → OffendsAt base patch (record { at = 0; length = 0 })
-  offends_not h =
-      let other = ne_eqb (both_verdict base patch).number 9 (λ e. h (ap (λ (w : Verdict). w.number) both ∙ e)) in
-      record {
+        inside = nine_inside base patch (eqb-true (both_verdict base patch).number 9 nine);
+      }))
+      (λ other.
+      rw other
+      (record {
         stands = λ rows room new_rows. sym (stands_both base patch rows room new_rows ∙ rw other);
         part = λ rows room new_rows. sym (offending_number base patch rows room new_rows ∙ rw other);
         inside = omega arith;
-      }
+      })))

@@ -117,12 +117,14 @@ pub extern "C" fn siodlomil_reverse(patch: &[u8], room: &mut [u8]) -> Reversed
 pub extern "C" fn siodlomil_offending(base: &[u8], patch: &[u8]) -> Offending
     ensures { OffendsAt base.now patch.now result }
 {
-    let Err(Refusal::Absent(lacking)) = verdict_of_both(base, patch) else {
-        return Offending { at: 0, length: 0 };
-    };
-    let place = lacking as usize;
-    Offending {
-        at: record_start(place) as u64,
-        length: 32,
+    match verdict_of_both(base, patch) {
+        Err(Refusal::Absent(lacking)) => {
+            let place = lacking as usize;
+            Offending {
+                at: record_start(place) as u64,
+                length: 32,
+            }
+        }
+        _ => Offending { at: 0, length: 0 },
     }
 }

@@ -225,12 +225,3 @@ module _ {n : ℕ} {rows sizes order : List ℕ} {cover : ℕ} (ready : Ready n 
             (λ e. rw (e, same) (omega (arith, ready.arrays.light i place, underway_light so_far below meet largest)));
         kept = λ j h. get_or-set_other sums i j sum 0 (λ e. never (bit_at cover i) (so_far.inside i there) (rw (sym e) h)) ∙ so_far.kept j h;
       }
-
--- no place is left: the best sums of all places of the cover are filled in
-pub underway_all : {n : ℕ} {rows sizes order : List ℕ} {cover : ℕ} {before sums : List ℕ} {rest k : ℕ}
-    → Underway n rows sizes order cover before sums rest k → rest ≡ 0 → PathSums n rows sizes cover before sums
-underway_all so_far done =
-    record {
-      best = λ j h. so_far.settled j h (rw done (bit_none j));
-      kept = so_far.kept;
-    }

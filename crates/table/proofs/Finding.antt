@@ -5,21 +5,22 @@ use mathlib.Core.Bool.{Bool}
 use mathlib.Core.Path.{◌≡◌, ap, sym, ◌∙◌}
 use native.Mathlib.Omega.{arith}
 use borrow.Author.Tests.{lt-ltb, le-ltb}
-use lib.ListN.{get_or}
+use lib.ListN.{length, get_or}
 use Rattle.std.specs.Prelude.{Option, Some, None}
 use Rattle.rules.specs.Numbers.{lowest}
 use Rattle.rules.specs.Blocks.{records, record_at, record_count}
-use Rattle.rules.proofs.Numbers.{lowest_ext, get_or-up_to}
+use Rattle.rules.proofs.Numbers.{lowest_ext, get_or-up_to, length-up_to}
+use Rattle.rules.specs.Refusals.{fine, refusal, refuse_at}
 use Rattle.image.specs.First.{first}
-use Rattle.image.proofs.First.{Searched, first_found}
+use Rattle.image.proofs.First.{refuse_at_first, refuse_at_no_first}
 
 pub first_ext : (test other : ℕ → Bool) (n : ℕ) → ((k : ℕ) → k < n → test k ≡ other k) → first test n ≡ first other n
 first_ext test other n same = rw (lowest_ext test other n same)
 
-pub first_record : (image : List ℕ) (test : List ℕ → Bool) (count : ℕ) (found : Option ℕ) → count ≡ record_count image → Searched (λ k. test (record_at image k)) count found
+pub first_record : (image : List ℕ) (test : List ℕ → Bool) (count : ℕ) (found : Option ℕ) → count ≡ record_count image → found ≡ first (λ k. test (record_at image k)) count
     → found ≡ first (λ k. test (get_or (records image) k [])) (record_count image)
 first_record image test count found counted searched =
-    first_found (λ k. test (record_at image k)) count found searched
+    searched
     ∙ rw counted
     (first_ext (λ k. test (record_at image k)) (λ k. test (get_or (records image) k [])) (record_count image)
     (λ k h. ap test (sym (get_or-up_to (record_at image) (record_count image) k [] h))))
@@ -30,3 +31,11 @@ first_at test n i here inside = rw (here, lt-ltb i n inside)
 
 pub first_past : (test : ℕ → Bool) (n : ℕ) → lowest test n ≡ n → None ≡ first test n
 first_past test n here = rw (here, le-ltb n n (omega arith))
+
+-- so a refusal at the first record with a fault is at that record, and without one it is fine
+module _ (image : List ℕ) (number : ℕ) (fault : ℕ → Bool) where
+  pub refuse_at_record : {place : ℕ} → Some place ≡ first fault (record_count image) → refuse_at number fault (length (records image)) ≡ refusal number place
+  refuse_at_record {place} found = rw (length-up_to (record_at image) (record_count image)) (refuse_at_first number fault (record_count image) place found)
+
+  pub refuse_at_no_record : None ≡ first fault (record_count image) → refuse_at number fault (length (records image)) ≡ fine
+  refuse_at_no_record found = rw (length-up_to (record_at image) (record_count image)) (refuse_at_no_first number fault (record_count image) found)

@@ -26,11 +26,11 @@ use Rattle.image.specs.First.{first}
 use Rattle.table.specs.Numbers.{Rising, place_among, place_from, NumbersRead, Directory}
 
 -- the first number that passes a test, or the end where none does, is the lowest
-pub first_placed : (test : ℕ → Bool) (n : ℕ) → unwrap_or (first test n) n ≡ lowest test n
-first_placed test n =
+pub first_placed : (test : ℕ → Bool) (n : ℕ) (found : Option ℕ) → found ≡ first test n → unwrap_or found n ≡ lowest test n
+first_placed test n found e =
     either (some test n)
-    (λ t. rw t)
-    (λ t. rw t (omega (arith, ltb-false (lowest test n) n t, lowest_le test n)))
+    (λ t. rw (e, t))
+    (λ t. rw (e, t) (omega (arith, ltb-false (lowest test n) n t, lowest_le test n)))
 
 -- one test, the other way round
 pub not_below : (a b : ℕ) → leb a b ≡ not (ltb b a)
@@ -113,15 +113,7 @@ pub found_listed : (l : List (List ℕ)) (x count : ℕ) (found : Option ℕ) �
 found_listed l x count (Some place) here counted inside = sym (lt-ltb (place_of l x) (length l) (omega (arith, here, counted, inside)))
 found_listed l x count None here counted inside = sym (le-ltb (place_of l x) (length l) (omega (arith, here, counted)))
 
--- a place at the count says that the number is not listed
-pub place_unlisted : (l : List (List ℕ)) (x place count : ℕ) → place ≡ place_of l x → count ≡ length l → eqb place count ≡ not (listed l x)
-place_unlisted l x place count here counted =
-    let most = lowest_le (λ k. eqb (number_of (get_or l k [])) x) (length l) in
-    either (ltb (place_of l x) (length l))
-    (λ t. rw (t, ne_eqb place count (λ same. omega (arith, ltb-true (place_of l x) (length l) t))))
-    (λ t. rw (t, eq-eqb place count (omega (arith, ltb-false (place_of l x) (length l) t))))
-
--- and any other is one of the list
+-- a place other than the count is one of the list
 pub place_within : (l : List (List ℕ)) (x place count : ℕ) → place ≡ place_of l x → count ≡ length l → (place ≡ count → ⊥) → place < length l
 place_within l x place count here counted other =
     omega (arith, here, counted, other, lowest_le (λ k. eqb (number_of (get_or l k [])) x) (length l))

@@ -16,14 +16,12 @@ fn slot(fields: &[u8]) -> usize
     ensures { (result ≡ slot_of fields.now) × (result < 8) }
 {
     let kind = byte_at(fields, 0);
-    if 3 < kind {
-        return 0;
-    }
     let way = byte_at(fields, 31);
-    if 1 < way {
-        return 0;
+    if kind <= 3 && way <= 1 {
+        (kind + 4 * way) as usize
+    } else {
+        0
     }
-    (kind + 4 * way) as usize
 }
 
 // How many records there are of each kind and way: of kind k and way w at k + 4 * w.
@@ -53,6 +51,7 @@ fn kind_start(image: &[u8], kind: u32) -> usize
     if 3 < kind {
         return count;
     }
+    // By hand: records lie across blocks, so there is no slice of them whose `partition_point` could be asked.
     let mut low: usize = 0;
     let mut high = count;
     while low < high {

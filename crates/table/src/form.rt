@@ -34,6 +34,7 @@ fn has_zero_bytes(kind: Kind, fields: &[u8]) -> bool
     }
 }
 
+// Whether a record is of no kind, or a byte said to be 0 is not 0.
 fn is_form_wrong(form: Form, fields: &[u8]) -> bool
     ensures { result ≡ form_wrong form fields.now }
 {

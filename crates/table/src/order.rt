@@ -8,6 +8,7 @@ ghost use Rattle.image.specs.Held.{HoldsRecords};
 
 use image::bytes::{byte_at, two_bytes};
 use image::records::{record_at, record_count};
+use rules::Kind;
 
 // A number that rises exactly as table order does.
 pub fn key(fields: &[u8]) -> u64
@@ -15,7 +16,7 @@ pub fn key(fields: &[u8]) -> u64
 {
     let kind = byte_at(fields, 0);
     let front = (u64::from(kind) * 65536 + u64::from(two_bytes(fields, 2))) * 65536;
-    if kind == 3 {
+    if kind == u32::from(Kind::Pair) {
         front + u64::from(two_bytes(fields, 4))
     } else {
         front

@@ -9,6 +9,7 @@ use image::bytes::{byte_at, four_bytes, two_bytes};
 use image::records::{record_at, record_count};
 use rules::Kind;
 
+// Whether number and period of a transaction are in range.
 fn is_transaction_right(fields: &[u8]) -> bool
     ensures { result ≡ transaction_right fields.now }
 {
@@ -54,12 +55,14 @@ fn is_time_right(fields: &[u8]) -> bool
         && response <= 2_000_000_000
 }
 
+// Whether all of a task is in range, its size too.
 fn is_task_right(fields: &[u8]) -> bool
     ensures { result ≡ task_right fields.now }
 {
     is_name_right(fields) && is_time_right(fields) && 1 <= two_bytes(fields, 20)
 }
 
+// Whether a pair is of a known sort and names two different tasks.
 fn is_pair_right(fields: &[u8]) -> bool
     ensures { result ≡ pair_right fields.now }
 {

@@ -1,13 +1,12 @@
 // The verdict on a whole image, as a table and as a patch.
-ghost use Rattle.std.specs.Prelude.{◌≡◌, true, ◌||◌, ◌+◌, ◌≤◌, ltb, length, get_or, replicate, IfOk};
+ghost use Rattle.std.specs.Prelude.{◌≡◌, ℕ, List, true, ◌≤◌, replicate, IfOk};
 ghost use Rattle.rules.specs.Blocks.{records, record_count};
-ghost use Rattle.rules.specs.Records.{tasks as Records·tasks};
+ghost use Rattle.rules.specs.Records.{most_of, too_many};
+ghost use Rattle.rules.specs.Kinds.{kind_number};
 ghost use Rattle.rules.specs.Refusals.{accepted, fine, frame_verdict, records_verdict, count_refusal, reference_refusal, circle_refusal, link_refusal, table_verdict, patch_verdict};
 ghost use Rattle.rules.specs.Told.{judged};
-ghost use Rattle.rules.specs.declared.Form.TheVariants.{Table as Form·Table};
 ghost use Rattle.image.specs.Held.{HoldsRecords};
-ghost use Rattle.table.specs.Numbers.{Directory};
-ghost use Rattle.table.specs.Precedence.{SoundRecords};
+ghost use Rattle.table.specs.Tally.{Tallied};
 ghost use Rattle.table.specs.Judged.{earlier_verdict, Judges};
 
 use crate::accepted::{Patch, Table};
@@ -21,12 +20,24 @@ use crate::reference::first_wrong_reference;
 use image::frame::frame_verdict;
 use rules::{Fault, Form, Kind, Refusal};
 
-// Whether a tally has more records of a kind than may be taken out, or put in.
-fn has_too_many(counts: [u32; 8], kind: usize, most: u32) -> bool
-    requires { (kind ≤ 3) × (8 ≡ length counts) }
-    ensures { result ≡ (ltb most (get_or counts kind 0) || ltb most (get_or counts (kind + 4) 0)) }
+// The most records of a kind that a table may have, and that a patch may take out or put in.
+fn most_of(kind: Kind) -> u32
+    ensures { result ≡ most_of (kind_number kind) }
 {
-    most < counts[kind] || most < counts[kind + 4]
+    match kind {
+        Kind::Transaction => rules::MOST_TRANSACTIONS,
+        Kind::Task => rules::MOST_TASKS,
+        Kind::Pair => rules::MOST_PAIRS,
+    }
+}
+
+// Whether there are more records of a kind than may be taken out, or put in, by their tally.
+fn has_too_many(counts: [u32; 8], kind: Kind) -> bool
+    ensures { (rs : List (List ℕ)) → Tallied rs counts → result ≡ too_many rs (kind_number kind) }
+{
+    let most = most_of(kind);
+    let at = u32::from(kind) as usize;
+    most < counts[at] || most < counts[at + 4]
 }
 
 // 7: too many of a kind.
@@ -36,13 +47,13 @@ fn check_counts(form: Form, image: &[u8]) -> Result<(), Refusal>
     ensures { judged result ≡ count_refusal form (records image.now) }
 {
     let counts = tally(image);
-    if has_too_many(counts, 1, rules::MOST_TRANSACTIONS) {
+    if has_too_many(counts, Kind::Transaction) {
         return Err(Refusal::Image(form, Fault::TooMany(Kind::Transaction)));
     }
-    if has_too_many(counts, 2, rules::MOST_TASKS) {
+    if has_too_many(counts, Kind::Task) {
         return Err(Refusal::Image(form, Fault::TooMany(Kind::Task)));
     }
-    if has_too_many(counts, 3, rules::MOST_PAIRS) {
+    if has_too_many(counts, Kind::Pair) {
         return Err(Refusal::Image(form, Fault::TooMany(Kind::Pair)));
     }
     Ok(())
@@ -66,21 +77,15 @@ fn check_records(form: Form, image: &[u8]) -> Result<(), Refusal>
     check_counts(form, image)
 }
 
-// 14: a task that comes before itself. The tasks have these ids, and the rows are made those of which comes before which.
-fn check_circles(
-    image: &[u8],
-    ids: &[u32],
-    tasks: usize,
-    before: &mut [u64; 64],
-) -> Result<(), Refusal>
-    requires sound_records { SoundRecords image.now }
-    requires tasks_listed { Directory (Records·tasks (records image.now)) ids.now tasks }
+// 14: a task that comes before itself. The rows are made those of which task comes before which.
+fn check_circles(listing: &Listing, before: &mut [u64; 64]) -> Result<(), Refusal>
+    requires referring { accepted (reference_refusal (records listing.now.image.now)) ≡ true }
     requires blank { before.old ≡ replicate 64 0 }
-    ensures { Judges (circle_refusal (records image.now)) fine (records image.now) (judged result) before.old before.new }
+    ensures { Judges (circle_refusal (records listing.now.image.now)) fine (records listing.now.image.now) (judged result) before.old before.new }
 {
-    mark_before(before, image, ids, tasks);
-    match first_circle(before, tasks) {
-        Some(place) => Err(Refusal::Circle(ids[place])),
+    mark_before(before, listing.image, &listing.ids, listing.tasks);
+    match first_circle(before, listing.tasks) {
+        Some(place) => Err(Refusal::Circle(listing.ids[place])),
         None => Ok(()),
     }
 }
@@ -93,7 +98,7 @@ fn check_links(listing: &Listing, before: &mut [u64; 64]) -> Result<(), Refusal>
     if let Some(place) = first_wrong_reference(listing) {
         return Err(Refusal::Unknown(place as u32));
     }
-    check_circles(listing.image, &listing.ids, listing.tasks, before)
+    check_circles(listing, before)
 }
 
 // An image that is a table, or its refusal, 1 to 8 or 14; and in rows that were all 0, which of its tasks come before which: whoever

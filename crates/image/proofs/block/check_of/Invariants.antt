@@ -9,5 +9,6 @@ use Rattle.image.proofs.block.check_of.Given as goal
 abbrev pub term : List ℕ → ℕ → ℕ
 term block i = (i + 1) * get_or block i 0
 
-abbrev pub invariant-loop-i : goal.invariant-loop-i
-invariant-loop-i l = (l.i ≤ 510) × (l.sums + sum_to (term l.block) l.i ≡ (l.i + 1) * l.sum) × (l.sum ≤ 255 * l.i) × (l.sums ≤ 130050 * l.i)
+abbrev pub invariant-loop-byte : goal.invariant-loop-byte
+invariant-loop-byte l =
+    (l.sums + sum_to (term l.block) l.byte-index ≡ (l.byte-index + 1) * l.sum) × (l.sum ≤ 255 * l.byte-index) × (l.sums ≤ 130050 * l.byte-index)

@@ -1,3 +1,4 @@
+-- All records before the first that is put in are taken out.
 use Prim.Native.Nat.{◌<◌}
 use mathlib.Core.Path.{◌≡◌, sym, ap, ◌∙◌}
 use mathlib.Core.List.{[]}

@@ -4,11 +4,7 @@ use Rattle.patch.proofs.Touching.{marks_beside, marks_beside-none}
 use Rattle.patch.proofs.touched.tasks_beside.Goals as goal
 
 pub returns-in-Some : goal.returns-in-Some
-returns-in-Some c =
-    let r = c.args.related.now in
-    marks_beside r.tasks.columns.ids r.tasks.table.tasks r.beside c.args.id c.in-Some.place c.in-Some.ensures.placed c.in-Some.ensures.inside
+returns-in-Some c = marks_beside c.args.related.now c.args.id c.in-Some.place c.in-Some.ensures.placed c.in-Some.ensures.inside
 
 pub returns-in-None : goal.returns-in-None
-returns-in-None c =
-    let r = c.args.related.now in
-    marks_beside-none r.tasks.columns.ids r.tasks.table.tasks r.beside c.args.id (sym c.in-None.ensures.placed)
+returns-in-None c = marks_beside-none c.args.related.now c.args.id (sym c.in-None.ensures.placed)

@@ -1,3 +1,4 @@
+-- One record more adds the tasks that it touches.
 use mathlib.Core.Path.{◌≡◌, sym, ap, ◌∙◌}
 use mathlib.Core.List.{[]}
 use native.Mathlib.Omega.{arith}
@@ -14,7 +15,7 @@ use Rattle.patch.proofs.touched.touched_tasks.Goals as goal
 pub loop-place-init : goal.loop-place-init
 loop-place-init c =
     let a = c.args in
-    marks_start a.related.now.tasks.table.tasks (is_touched (records a.patch.now.image.now) a.related.now)
+    marks_start a.related.now.tasks (is_touched (records a.patch.now.image.now) a.related.now)
 
 pub record_at-fields-requires : goal.record_at-fields-requires
 record_at-fields-requires c =
@@ -26,11 +27,10 @@ loop-place-preserved c =
     let image = c.args.patch.now.image.now in
     let related = c.args.related.now in
     let k = c.loop-place.place in
-    let count = related.tasks.table.tasks in
     let test = is_touched (records image) related in
     let read : get_or (records image) k [] ≡ c.record_at-fields.result.now = get_or-up_to (record_at image) (record_count image) k [] (omega (arith, c.record_count-place-end.ensures)) ∙ sym c.record_at-fields.ensures in
-    let here : Marks count (λ i. test i k) c.touched_by.result = rw read c.touched_by.ensures in
-    rw c.union-set.ensures (marks_more count test k c.loop-place.set c.touched_by.result c.loop-place.invariant here)
+    let here : Marks related.tasks (λ i. test i k) c.touched_by.result = rw read c.touched_by.ensures in
+    rw c.union-set.ensures (marks_more related.tasks test k c.loop-place.set c.touched_by.result c.loop-place.invariant here)
 
 pub returns : goal.returns
 returns c =

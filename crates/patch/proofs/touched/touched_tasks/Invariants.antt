@@ -11,7 +11,7 @@ use Rattle.patch.proofs.touched.touched_tasks.Given as goal
 
 -- whether record j touches the task at place i
 abbrev pub is_touched : List (List ℕ) → Related → ℕ → ℕ → Bool
-is_touched ps r i j = touched_in r.tasks.columns.ids r.tasks.columns.transactions r.tasks.table.tasks r.beside (get_or ps j []) i
+is_touched ps r i j = touched_in r (get_or ps j []) i
 
 abbrev pub invariant-loop-place : goal.invariant-loop-place
-invariant-loop-place l = Marks l.related.tasks.table.tasks (λ i. some (is_touched (records l.patch.image.now) l.related i) l.place) l.set
+invariant-loop-place l = Marks l.related.tasks (λ i. some (is_touched (records l.patch.image.now) l.related i) l.place) l.set

@@ -4,8 +4,6 @@ use mathlib.Core.Bool.{true, false}
 use mathlib.Core.Path.{◌≡◌, ap, ◌∙◌}
 use Rattle.rules.specs.Calls.{over}
 use Rattle.rules.specs.Refusals.{accepted, table_verdict}
-use Rattle.rules.specs.Blocks.{records}
-use Rattle.rules.specs.Preempt.{map_of}
 use Rattle.rules.proofs.Judged.{is_refused}
 use Rattle.table.proofs.Judging.{judged_before, handed_on}
 use Rattle.preempt.proofs.Calls.{map_refused, map_short, map_filled}
@@ -22,8 +20,9 @@ returns-in_err-table c =
 
 pub returns-then-rows-lt64 : goal.returns-then-rows-lt64
 returns-then-rows-lt64 c =
-    let right : accepted (table_verdict c.args.image.now) ≡ true = rw (← c.in_ok-table.ensures.of_image) c.in_ok-table.table.accepted in
-    let call = map_short c.args.image.now c.args.rows.now right c.if-rows-lt64.true in record { told = call.0; rows_after = call.1 }
+    let t = c.in_ok-table.table in
+    let call = map_short t.image.now c.args.rows.now t.accepted c.if-rows-lt64.true in
+    rw (← c.in_ok-table.ensures.of_image) (record { told = call.0; rows_after = call.1 })
 
 pub table_map-requires : goal.table_map-requires
 table_map-requires c =
@@ -33,8 +32,7 @@ table_map-requires c =
 
 pub returns : goal.returns
 returns c =
-    let a = c.args in
-    let right : accepted (table_verdict c.args.image.now) ≡ true = rw (← c.in_ok-table.ensures.of_image) c.in_ok-table.table.accepted in
-    let map = c.table_map.ensures ∙ ap (λ (image : List _). map_of (records image)) c.in_ok-table.ensures.of_image in
-    let call = map_filled a.image.now a.rows.now right c.if-rows-lt64.false in
-    record { told = call.0; rows_after = c.write_rows.ensures ∙ ap (λ (map : List _). over map a.rows.now) map ∙ call.1 }
+    let t = c.in_ok-table.table in
+    let lent = c.args.rows.now in
+    let call = map_filled t.image.now lent t.accepted c.if-rows-lt64.false in
+    rw (← c.in_ok-table.ensures.of_image) (record { told = call.0; rows_after = c.write_rows.ensures ∙ ap (λ (map : List _). over map lent) c.table_map.ensures ∙ call.1 })

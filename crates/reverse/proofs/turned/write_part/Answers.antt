@@ -1,3 +1,4 @@
+-- Each record is read from the patch, has 32 bytes, and finds room behind those before it.
 use mathlib.Core.Path.{◌≡◌, ap, ◌∙◌}
 use mathlib.Core.List.{[]}
 use native.Mathlib.Omega.{arith}

@@ -1,11 +1,12 @@
 use mathlib.Core.Path.{refl, sym, ◌∙◌}
 use Rattle.stack.proofs.Sums.{underway_none, next_place, underway_skip, underway_take, underway_light}
 use native.Mathlib.Omega.{arith}
+use borrow.Author.Rules.{rules}
 use Rattle.stack.proofs.path.path_sums.Goals as goal
 use Rattle.stack.proofs.path.path_sums.Goals.{then-is_set, else-is_set}
 
 pub loop-k-init : goal.loop-k-init
-loop-k-init c = underway_none c.args.ordered.now.ready (omega (arith, c.well_formed.0)) c.requires.inside
+loop-k-init c = underway_none c.args.ordered.now.ready (search rules) c.requires.inside
 
 pub bounds-ordered-k : goal.bounds-ordered-k
 bounds-ordered-k c = omega (arith, next_place c.args.ordered.now.ready c.loop-k.invariant (omega (arith, c.if-rest-eq0.false)) c.ranges.cover.fits refl)

@@ -1,17 +1,11 @@
 -- The search over the records is that of the definition.
-use Rattle.std.proofs.Common.{rules, ◌≡◌}
-use Rattle.std.proofs.lemmas.Iterator.{first_from_Range}
-use mathlib.Core.List.{List}
-use Prim.Native.Nat.{ℕ}
-use mathlib.Core.Bool.{Bool, true, false}
-use Rattle.rules.specs.Blocks.{records, record_at}
+use Rattle.std.proofs.Common.{rules}
+use Rattle.rules.specs.Blocks.{records}
 use Rattle.rules.specs.Records.{reference_wrong}
+use Rattle.image.proofs.First.{first_in_range}
 use Rattle.table.proofs.Finding.{first_record}
 use Rattle.table.proofs.reference.first_wrong_reference.Goals as goal
 
 pub returns : goal.returns
 returns c =
-    let image = c.args.listing.now.image.now in
-    let test : List ℕ → Bool = reference_wrong (records image) in
-    first_record image test c.record_count.result c.find.result c.record_count.ensures
-    (first_from_Range _ _ _ _ (λ k. test (record_at image k) ≡ true) (λ k. test (record_at image k) ≡ false) c.find.ensures.ran (λ k q called. search rules) (λ k q called. search rules))
+    first_record c.args.listing.now.image.now (reference_wrong (records c.args.listing.now.image.now)) _ _ c.record_count.ensures (first_in_range _ _ _ _ _ c.find.ensures.ran (λ k answer q called. search rules))

@@ -1,13 +1,7 @@
 -- Each way out is one of the two answers where the bounds are asked.
-use native.Mathlib.Omega.{arith}
 use Rattle.within.proofs.Counting.{none_left, some_left}
 use Rattle.within.proofs.Calling.{given_up, found_within}
 use Rattle.within.proofs.call.within_over.Goals as goal
-
-pub tally_chains-tally-requires : goal.tally_chains-tally-requires
-tally_chains-tally-requires c =
-    let ordered = c.ordered-ordered.ensures in
-    record { climbs = rw (ordered.count, ordered.rows) (c.args.tasks.now.columns.priorities, c.requires.rises) }
 
 pub returns-then-is_spent : goal.returns-then-is_spent
 returns-then-is_spent c lent same =
@@ -20,9 +14,6 @@ returns-then-is_spent c lent same =
     (rw (ordered.count, ordered.rows, ordered.sizes) at c.path_bound-path.ensures)
     (rw (ordered.count, ordered.rows, ordered.sizes) at c.transaction_bound-transactions.ensures)
     (none_left c.is_spent.ensures c.if-is_spent.true)
-
-pub opened-requires : goal.opened-requires
-opened-requires c = record { in_bounds = (some_left c.is_spent.ensures c.if-is_spent.false, omega (arith, c.tally_chains-tally.ensures.left)) }
 
 pub returns : goal.returns
 returns c lent same =
