@@ -1,5 +1,5 @@
 // Room for what a case lends, and reading it from the stream.
-ghost use Rattle.std.specs.Prelude.{◌≡◌, ◌≤◌, ℕ, OnErr, length, take};
+ghost use Rattle.std.specs.Prelude.{◌≡◌, ◌≤◌, ℕ, IfOk, OnOk, OnErr, length, take};
 ghost use Rattle.std.specs.Io.KnownBytes.{Consumes};
 
 use crate::little_endian::LittleEndian;
@@ -28,13 +28,16 @@ pub fn filled<T: Copy + Drop, const N: usize>(value: T) -> [T; N]
 }
 
 // The first count items of a space, which the stream may not ask for where it is shorter.
-pub fn start_of<T>(space: &mut [T], count: usize) -> Result<&mut [T], Stop> {
+pub fn start_of<T>(space: &mut [T], count: usize) -> Result<&mut [T], Stop>
+    ensures { IfOk result (λ part. length part.now ≡ count) }
+{
     space.get_mut(..count).ok_or(Stop::Ended)
 }
 
 // Reads bytes until the space is full.
 fn fill<R: Read>(input: &mut R, space: &mut [u8]) -> Result<(), Stop>
-    ensures { OnErr result ((n : ℕ) × (n ≤ length space.new) × Consumes (R.remaining input.old) (R.remaining input.new) (take n space.new)) }
+    ensures bytes { OnOk result (Consumes (R.remaining input.old) (R.remaining input.new) space.new) }
+    ensures err { OnErr result ((n : ℕ) × (n ≤ length space.new) × Consumes (R.remaining input.old) (R.remaining input.new) (take n space.new)) }
 {
     if read_full(input, space)? < space.len() {
         return Err(Stop::Ended);
@@ -74,7 +77,9 @@ pub fn read_bytes<'a>(
     input: &mut impl Read,
     space: &'a mut [u8],
     count: usize,
-) -> Result<&'a mut [u8], Stop> {
+) -> Result<&'a mut [u8], Stop>
+    ensures { IfOk result (λ part. length part.now ≡ count) }
+{
     let bytes = start_of(space, count)?;
     fill(input, bytes)?;
     Ok(bytes)
@@ -85,7 +90,9 @@ pub fn read_numbers<'a, T: LittleEndian<WIDTH>, const WIDTH: usize>(
     input: &mut impl Read,
     space: &'a mut [T],
     count: usize,
-) -> Result<&'a mut [T], Stop> {
+) -> Result<&'a mut [T], Stop>
+    ensures { IfOk result (λ part. length part.now ≡ count) }
+{
     let numbers = start_of(space, count)?;
     fill_numbers(input, numbers)?;
     Ok(numbers)
