@@ -1,11 +1,11 @@
 -- What writes into a list of bytes leave there.
-use Prim.Native.Nat.{ℕ, ◌+◌, ◌*◌, ◌-◌, ◌/◌, ◌%◌, ◌≤◌, ◌<◌, min}
+use Prim.Native.Nat.{ℕ, suc, ◌+◌, ◌*◌, ◌-◌, ◌/◌, ◌%◌, ◌≤◌, ◌<◌, min}
 use mathlib.Core.List.{List, [], ◌∷◌, ◌++◌, append-nil, append_assoc}
 use mathlib.Core.Path.{◌≡◌, refl, sym, ap, ◌∙◌}
 use native.Mathlib.Omega.{arith}
 use borrow.Rule.Slice.PartMut.{put_mid}
-use lib.ListN.{length, take, drop, replicate, length-append, length-drop, length-replicate, drop_of_length-le}
-use lib.Seq.{get_or-take, take_at, drop_at, drop-drop}
+use lib.ListN.{length, get_or, set, take, drop, replicate, length-append, length-drop, length-replicate, drop_of_length-le}
+use lib.Seq.{paste-suc, drop-length, get_or-take, take_at, drop_at, drop-drop}
 use Rattle.rules.specs.declared.Form.{Form}
 use Rattle.rules.specs.declared.Form.TheVariants.{Table, Patch}
 use Rattle.rules.specs.Numbers.{up_to}
@@ -19,6 +19,20 @@ use Rattle.std.specs.Int.{to_le_bytes}
 use Rattle.std.proofs.Common.{w16}
 use Rattle.image.proofs.Parts.{part_length}
 use Rattle.image.specs.Write.{header_of, body_behind, body_bytes}
+
+-- one more byte copied over the start of a list
+pub copied_more : (s d : List ℕ) (k : ℕ) → k < length s → length s ≤ length d
+    → set (take k s ++ drop k d) k (get_or s k 0) ≡ take (k + 1) s ++ drop (k + 1) d
+copied_more s d k inside fits =
+    let here : 0 + k ≡ k = omega arith in
+    let next : 0 + suc k ≡ suc k = omega arith in
+    let more : k + 1 ≡ suc k = omega arith in
+    let step = paste-suc {A = ℕ} d 0 s k 0 (omega arith) inside in
+    rw more (rw (here, next) at step)
+
+-- values written over a whole list
+pub over_all : (s d : List ℕ) → length s ≡ length d → over s d ≡ s
+over_all s d e = rw (e, drop-length d, append-nil)
 
 -- a part put behind the values that are written already
 put-over : (done new l : List ℕ) (a k : ℕ) → length done ≡ a → length new ≡ k → put_mid a k (over done l) new ≡ over (done ++ new) l

@@ -11,6 +11,17 @@ use rules::Form;
 // The bytes of a block's fifteen places.
 const PLACES_BYTES: usize = 480;
 
+// Copies all bytes of one part over the start of another. It is a loop, since the method of slices would let the archive call memmove
+// besides memcpy and memset.
+pub fn copy_bytes(from: &[u8], to: &mut [u8])
+    requires { length from.now ≤ length to.old }
+    ensures { to.new ≡ over from.now to.old }
+{
+    for k in 0..from.len() {
+        to[k] = from[k];
+    }
+}
+
 // The eight bytes in front of the records of block b of total.
 fn header(form: Form, total: u8, b: u8, count: u8) -> [u8; 8]
     ensures { result ≡ header_of form total b count }
@@ -27,7 +38,7 @@ fn write_body(header: &[u8; 8], records: &[u8], block: &mut [u8])
 {
     let end = 8 + records.len();
     block[..8].copy_from_slice(header);
-    block[8..end].copy_from_slice(records);
+    copy_bytes(records, &mut block[8..end]);
     block[end..510].fill(0);
 }
 

@@ -12,6 +12,7 @@ use crate::change::Change;
 use crate::outcome::write_outcome;
 use crate::space::blank_bytes;
 use image::records::record_part;
+use image::write::copy_bytes;
 use preempt::map::write_rows;
 use rules::{PatchFound, Refusal};
 use table::accepted::Table;
@@ -34,7 +35,7 @@ fn write_rooms(image: &[u8], found: Carried, room: &mut [u8], carried: &mut [u64
     ensures image_written { room.new ≡ over image.now room.old }
     ensures map_written { carried.new ≡ over found.map carried.old }
 {
-    room[..image.len()].copy_from_slice(image);
+    copy_bytes(image, room);
     write_rows(found.map, carried);
     PatchFound {
         touched: found.touched,

@@ -1,10 +1,12 @@
 -- Header, records and zeros are written one after another, each where the one before it ends.
-use Rattle.image.proofs.Writes.{body_written}
+use Rattle.image.proofs.Writes.{body_written, over_all}
+use mathlib.Core.Path.{◌∙◌}
 use native.Mathlib.Omega.{arith}
+use Rattle.std.proofs.Common.{rules}
 use Rattle.image.proofs.write.write_body.Goals as goal
 
 pub returns : goal.returns
 returns c =
     body_written c.args.header.now c.args.records.now (omega arith) c.requires.few_records
-    c.args.block.now c.copy_from_slice.new.self c.copy_from_slice-2.new.self c.fill.new.self
-    c.requires.one_block c.copy_from_slice.ensures.after c.copy_from_slice-2.ensures.after (c.fill.ensures.after (λ y same. same))
+    c.args.block.now c.copy_from_slice.new.self c.copy_bytes.new.to c.fill.new.self
+    c.requires.one_block c.copy_from_slice.ensures.after (c.copy_bytes.ensures ∙ over_all c.args.records.now _ (search rules)) (c.fill.ensures.after (λ y same. same))
