@@ -46,12 +46,14 @@ fn map_of(columns: &Columns, barred: &[u64; 64], count: usize) -> [u64; 64]
     by_place(count, 0, |i| decided_row(columns, count, barred[i], i))
 }
 
-// Writes the 64 rows of a map over the start of a lent one.
+// Writes the 64 rows of a map over the start of a lent one. It is a loop, as `copy_bytes` of image is.
 pub fn write_rows(map: [u64; 64], lent: &mut [u64])
     requires { (length map ≡ 64) × (64 ≤ length lent.old) }
     ensures { lent.new ≡ over map lent.old }
 {
-    lent[..64].copy_from_slice(&map);
+    for i in 0..64 {
+        lent[i] = map[i];
+    }
 }
 
 // The map of an accepted table, of whose tasks before says which come before which.
