@@ -101,7 +101,7 @@ extern "C" {
 #endif
 
 /* The version of the library; CHANGELOG.md says what each changed. */
-#define SIODLOMIL_VERSION "0.11.0"
+#define SIODLOMIL_VERSION "0.12.0"
 
 /* A block of an image, and a record in it. */
 #define SIODLOMIL_BLOCK_BYTES 512
