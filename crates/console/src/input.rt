@@ -43,7 +43,7 @@ fn read_some<R: Read>(input: &mut R, space: &mut [u8]) -> io::Result<usize>
 }
 
 // Reads until the space is full or the input ends, and answers how many bytes there are. An error leaves the bytes of the reads
-// before it at the start of the space, and their number is lost.
+// before it at the start of the space, and their number is lost. How many bytes a read gives is known only then, so it is a `while`.
 pub fn read_full<R: Read>(input: &mut R, space: &mut [u8]) -> io::Result<usize>
     ensures length_in_bounds { IfOk result (λ n. n ≤ length space.new) }
     ensures bytes { IfOk result (λ n. Consumes (R.remaining input.old) (R.remaining input.new) (take n space.new)) }

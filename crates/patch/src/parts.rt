@@ -27,7 +27,8 @@ impl From<Way> for u8 {
     }
 }
 
-// How many records a patch takes out: it puts in those from this number on.
+// How many records a patch takes out: it puts in those from this number on. Where it puts in none that is the number of its records,
+// which both callers need, so it is no Option.
 pub fn first_put_in(patch: &[u8]) -> usize
     requires { HoldsRecords patch.now }
     ensures { result ≡ lowest (is_put_in (records patch.now)) (record_count patch.now) }
@@ -50,7 +51,7 @@ pub fn write_record(fields: &[u8], written: usize, flat: &mut [u8])
     flat[written..end].copy_from_slice(fields);
 }
 
-// Writes a record with this byte 31 behind the bytes written.
+// Writes a record with this byte 31 behind the bytes written. It answers for every byte, of which two are a Way.
 pub fn write_turned(fields: &[u8], way: u8, written: usize, flat: &mut [u8])
     requires { (length fields.now ≡ 32) × (written + 32 ≤ length flat.old) }
     ensures { flat.new ≡ take written flat.old ++ (set fields.now 31 way ++ drop (written + 32) flat.old) }

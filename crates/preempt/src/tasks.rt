@@ -74,7 +74,7 @@ pub fn task_place(table: &Table, id: u32) -> Option<usize>
     place_from(table.image, table.transactions, table.tasks, id)
 }
 
-// The period of the transaction with this number, or 0 where it is not listed.
+// The period of the transaction with this number, or 0 where it is not listed, as it is defined.
 fn period_in(table: &Table, number: u32) -> u32
     ensures { result ≡ period_in (records table.now.image.now) number }
 {

@@ -65,7 +65,7 @@ fn kind_start(image: &[u8], kind: u32) -> usize
     low
 }
 
-// How many records of a kind an image has whose records are in order.
+// How many records of a kind an image has whose records are in order. It answers for the number 0 too, which is no Kind.
 pub fn count_kind(image: &[u8], kind: u32) -> usize
     requires sound { accepted (records_verdict Table (records image.now)) ≡ true }
     requires known { kind ≤ 3 }

@@ -35,7 +35,7 @@ fn mark_pair(rows: &mut [u64], ids: &[u32], known: usize, sort: u32, fields: &[u
 }
 
 // Sets the cells of the pairs of this sort besides: cell j of row i where one names the task at place i first and the one at
-// place j second. The tasks have these ids.
+// place j second. The tasks have these ids. It answers for every number, of which two are a Sort.
 pub fn mark_pairs(rows: &mut [u64; 64], image: &[u8], ids: &[u32], known: usize, sort: u32)
     requires sound_records { SoundRecords image.now }
     requires tasks_listed { Directory (tasks (records image.now)) ids.now known }
