@@ -13,15 +13,15 @@
  * - A call takes stack, at most so many bytes of it, as tools/stack-use reads off the two archives:
  *
  *                             x86-64       Arm
- *     siodlomil_map              6,296     6,304
- *     siodlomil_bounds          35,208    33,120
- *     siodlomil_bounds_within   45,768    44,752
- *     siodlomil_room_left       33,768    31,792
- *     siodlomil_chain_through   33,048    30,976
- *     siodlomil_reason           1,584     1,424
- *     siodlomil_patch           41,464    41,504
- *     siodlomil_reverse         21,760    21,712
- *     siodlomil_offending        1,552     1,424
+ *     siodlomil_map              8,096     8,752
+ *     siodlomil_bounds          33,688    34,896
+ *     siodlomil_bounds_within   34,232    35,488
+ *     siodlomil_room_left       32,104    32,880
+ *     siodlomil_chain_through   30,904    32,064
+ *     siodlomil_reason           2,464     2,336
+ *     siodlomil_patch           47,360    49,712
+ *     siodlomil_reverse         21,880    21,856
+ *     siodlomil_offending        2,544     2,480
  *
  *   To that come what memcpy and memset use and up to 160 bytes: arguments that have no register, and on Arm an inline
  *   function at the end of this header where a compiler does not put it in line.
