@@ -7,17 +7,17 @@ use crate::stop::Stop;
 use console::input::read_full;
 use std::io::Read;
 
-// The bytes of the longest image, and of the room for the image that a patch call writes.
+// The most bytes of an image that a case may have, and of the room for the image that a patch call writes.
 pub const IMAGE_BYTES: usize = 24_576;
 
 pub const ROOM_BYTES: usize = 12_800;
 
-// The rows of the longest map, which is also how many figures and questions there are at most, and the most ids.
+// The most rows of a map that a case may have, which is also how many figures and questions there are at most, and the most ids.
 pub const ROWS: usize = 80;
 
 pub const IDS: usize = 96;
 
-// The bytes of the longest map.
+// The bytes of that many rows.
 const ROWS_BYTES: usize = 640;
 
 // N times the value. The promise gives only the length, which lending it as a slice needs.

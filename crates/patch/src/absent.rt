@@ -12,7 +12,7 @@ use rules::Refusal;
 use table::accepted::{Patch, Table};
 use table::{patch_verdict, table_verdict};
 
-// Whether the patch takes a record out that the base lacks. Both are in table order, so the records taken out are met in
+// Refusal 9 at the first record that the patch takes out and the base lacks, if there is one. Both are in table order, so the records taken out are met in
 // turn among the base's up to the first that is lacking.
 #[tactic(auto, using(crate::proofs::Lacking::absent_verdicts))]
 fn absent_verdict(base: &Table, patch: &Patch) -> Result<(), Refusal>
@@ -27,7 +27,8 @@ fn absent_verdict(base: &Table, patch: &Patch) -> Result<(), Refusal>
     Ok(())
 }
 
-// The checks of a patch call that need no outcome: 1 to 8 and 14 of the base, 21 to 27 of the patch, then 9.
+// A patch that may be applied, with its base, or the first refusal that needs no outcome: 1 to 8 or 14 of the base, 21 to 27 of the
+// patch, then 9.
 pub fn verdict_of_both<'a>(base: &'a [u8], patch: &'a [u8]) -> Result<Change<'a>, Refusal>
     ensures told { judged result ≡ or_else (table_verdict base.now) (or_else (patch_verdict patch.now) (absent_refusal (records base.now) (records patch.now))) }
     ensures of_images { IfOk result (λ change. (change.base.image.now ≡ base.now) × (change.patch.image.now ≡ patch.now)) }

@@ -40,7 +40,8 @@ fn ids_of(table: &Table) -> [u32; 64]
     numbers_from(table.image, table.transactions, table.tasks)
 }
 
-// Where the base, whose tasks have these ids, has the task with an id; the number of its tasks where it has none.
+// Where the base, whose tasks have these ids, has the task with an id. Where it has none that is the number of its tasks, as it is
+// defined, so it is no Option.
 fn old_place(base: &Table, base_ids: &[u32; 64], id: u32) -> u32
     requires { Directory (Records·tasks (records base.now.image.now)) base_ids.now base.now.tasks }
     ensures { result ≡ Records·place_of (Records·tasks (records base.now.image.now)) id }

@@ -10,7 +10,7 @@ use crate::space::blank_bytes;
 use image::write::write_image;
 use rules::Form;
 
-// The bytes of the records of any table, 15 in each of 23 blocks, and of those that a patch puts in, at most 336.
+// The bytes of the records of any table, at most 336, and of those that a patch puts in, at most 336 too.
 const MOST_RECORD_BYTES: usize = 21_504;
 
 // Writes the outcome's records one after another, and their image over the start of the room.

@@ -1,4 +1,4 @@
-// The tasks of an accepted table by their places.
+// The reason for two places of an accepted table.
 ghost use Rattle.std.specs.Prelude.{◌≡◌, ◌<◌};
 ghost use Rattle.rules.specs.Blocks.{records};
 ghost use Rattle.rules.specs.Preempt.{reason_at};

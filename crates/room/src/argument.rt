@@ -25,7 +25,7 @@ fn number_of(digits: &[u8]) -> Option<u32>
     Some(number)
 }
 
-// Whether the program was given one argument behind its name.
+// Whether the program was given no more than one argument behind its name.
 fn is_one_given(env: &impl Env) -> bool {
     matches!(env.arg(2, &mut []), Err(FillError::NotPresent))
 }

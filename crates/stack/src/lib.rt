@@ -1,4 +1,5 @@
-// The chain and the four bounds of a table over a lent map; below the call, path sums and the search over plain slices.
+// The chain and the four bounds of a table over a lent map; below the call, path sums over tasks in order and the
+// search over tasks under new names.
 
 #![tactic(auto)]
 
