@@ -1,10 +1,8 @@
-use Prim.Native.Nat.{ℕ, ◌+◌}
-use mathlib.Core.Path.{◌≡◌, ap, subst, ◌∙◌}
-use lib.ListN.{length}
+use Prim.Native.Nat.{◌+◌}
+use mathlib.Core.Path.{ap, ◌∙◌}
 use Rattle.rules.specs.Blocks.{records}
 use Rattle.rules.specs.Records.{number_of, transactions}
 use Rattle.table.proofs.Tables.{shape}
-use Rattle.stack.specs.Figures.{OwnPaths}
 use Rattle.stack.proofs.Owning.{members_inside, own_none, own_next, own_within}
 use native.Mathlib.Omega.{arith}
 use Rattle.stack.proofs.own.transaction_bound.Goals as goal
@@ -13,11 +11,6 @@ pub loop-t-init : goal.loop-t-init
 loop-t-init c =
     let o = c.args.ordered.now in
     own_none o.count o.rows o.sizes c.args.numbers.now (transactions (records c.args.table.now.image.now))
-
-pub members-own-requires : goal.members-own-requires
-members-own-requires c =
-    let few = c.args.ordered.now.ready.arrays.few in
-    (few, omega (arith, few))
 
 pub path_sums-more-requires : goal.path_sums-more-requires
 path_sums-more-requires c =
@@ -35,10 +28,3 @@ pub loop-t-preserved : goal.loop-t-preserved
 loop-t-preserved c =
     let here = c.two_bytes-number.ensures.0 ∙ ap number_of c.transaction_record.ensures in
     own_next c.loop-t.invariant c.args.ordered.now.ready.arrays.few here c.members-own.ensures c.path_sums-more.ensures c.largest_at-total.ensures
-
-pub returns : goal.returns
-returns c =
-    let o = c.args.ordered.now in
-    let listed = transactions (records c.args.table.now.image.now) in
-    let end : c.loop-t.t ≡ length listed = omega (arith, c.args.table.now.transactions_counted) in
-    subst (λ (n : ℕ). OwnPaths o.count o.rows o.sizes c.args.numbers.now listed n c.loop-t.total) end c.loop-t.invariant

@@ -1,13 +1,9 @@
 -- The best sums of all places are made, and a set of all places leaves the path bound itself.
 use Rattle.rules.specs.Preempt.{cell}
 use Rattle.ceiling.specs.Near.{size_of}
-use Rattle.sets.proofs.Sets.{below_inside}
 use Rattle.stack.proofs.Sums.{sums_bound}
 use Rattle.stack.proofs.Figures.{largest_all}
 use Rattle.stack.proofs.path.path_bound.Goals as goal
-
-pub path_sums-sums-requires : goal.path_sums-sums-requires
-path_sums-sums-requires c = record { inside = below_inside c.args.ordered.now.count c.all_below-all.result c.all_below-all.ensures }
 
 pub returns : goal.returns
 returns c =

@@ -1,4 +1,4 @@
-use mathlib.Core.Path.{refl, sym, ◌∙◌}
+use mathlib.Core.Path.{sym, ◌∙◌}
 use Rattle.stack.proofs.Sums.{underway_none, next_place, underway_skip, underway_take, underway_light}
 use native.Mathlib.Omega.{arith}
 use borrow.Author.Rules.{rules}
@@ -7,12 +7,6 @@ use Rattle.stack.proofs.path.path_sums.Goals.{then-is_set, else-is_set}
 
 pub loop-k-init : goal.loop-k-init
 loop-k-init c = underway_none c.args.ordered.now.ready (search rules) c.requires.inside
-
-pub bounds-ordered-k : goal.bounds-ordered-k
-bounds-ordered-k c = omega (arith, next_place c.args.ordered.now.ready c.loop-k.invariant (omega (arith, c.if-rest-eq0.false)) c.ranges.cover.fits refl)
-
-pub is_set-requires : goal.is_set-requires
-is_set-requires c = omega (arith, next_place c.args.ordered.now.ready c.loop-k.invariant (omega (arith, c.if-rest-eq0.false)) c.ranges.cover.fits c.from-place.ensures)
 
 pub overflow_add-sums : goal.overflow_add-sums
 overflow_add-sums c =

@@ -1,6 +1,6 @@
 use mathlib.Core.Path.{refl}
 use Rattle.stack.proofs.Sums.{zeros}
-use Rattle.stack.proofs.Relating.{rows_none, rows_more, rows_all}
+use Rattle.stack.proofs.Relating.{rows_none, rows_more}
 use native.Mathlib.Omega.{arith}
 use Rattle.stack.proofs.related.related_rows.Goals as goal
 
@@ -10,6 +10,3 @@ loop-place-init c = rows_none refl (zeros 64)
 pub loop-place-preserved : goal.loop-place-preserved
 loop-place-preserved c =
     rows_more c.higher-above.result c.shared.result c.loop-place.invariant (omega arith) (omega arith) c.higher-above.ensures c.shared.ensures
-
-pub returns : goal.returns
-returns c = rows_all c.loop-place.invariant (omega arith)
