@@ -7,6 +7,7 @@ ghost use Rattle.patch.specs.Parts.{is_put_in, way_number};
 
 use image::bytes::byte_at;
 use image::records::{record_at, record_count};
+use image::write::copy_bytes;
 
 // What a patch does with a record of it: it takes it out of the base, or it puts it in.
 #[derive(Clone, Copy, PartialEq, Eq, Debug)]
@@ -48,7 +49,7 @@ pub fn write_record(fields: &[u8], written: usize, flat: &mut [u8])
     ensures { flat.new ≡ take written flat.old ++ (fields.now ++ drop (written + 32) flat.old) }
 {
     let end = written + rules::RECORD_BYTES;
-    flat[written..end].copy_from_slice(fields);
+    copy_bytes(fields, &mut flat[written..end]);
 }
 
 // Writes a record with this byte 31 behind the bytes written. It answers for every byte, of which two are a Way.
