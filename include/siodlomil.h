@@ -19,8 +19,8 @@
  *     siodlomil_room_left       32,104    32,880
  *     siodlomil_chain_through   30,904    32,064
  *     siodlomil_reason           2,464     2,336
- *     siodlomil_patch           47,360    49,712
- *     siodlomil_reverse         21,880    21,856
+ *     siodlomil_patch           47,424    49,808
+ *     siodlomil_reverse         21,864    21,840
  *     siodlomil_offending        2,544     2,480
  *
  *   To that come what memcpy and memset use and up to 160 bytes: arguments that have no register, and on Arm an inline
