@@ -19,8 +19,8 @@
  *     siodlomil_room_left       32,104    32,880
  *     siodlomil_chain_through   30,904    32,064
  *     siodlomil_reason           2,464     2,336
- *     siodlomil_patch           47,424    49,808
- *     siodlomil_reverse         21,864    21,840
+ *     siodlomil_patch           47,424    49,792
+ *     siodlomil_reverse         21,808    21,744
  *     siodlomil_offending        2,544     2,480
  *
  *   To that come what memcpy and memset use and up to 160 bytes: arguments that have no register, and on Arm an inline
@@ -101,7 +101,7 @@ extern "C" {
 #endif
 
 /* The version of the library; CHANGELOG.md says what each changed. */
-#define SIODLOMIL_VERSION "0.12.0"
+#define SIODLOMIL_VERSION "0.12.1"
 
 /* A block of an image, and a record in it. */
 #define SIODLOMIL_BLOCK_BYTES 512

@@ -43,5 +43,4 @@ compile_module() {
 # The words for each target. Android keeps register 18 for itself, and code that leaves it alone runs on every Arm Linux.
 words_for_x86_64=(--target=x86_64-unknown-linux-gnu -march=x86-64 -fPIC)
 words_for_arm=(--target=aarch64-unknown-linux-gnu -march=armv8-a -ffixed-x18 -mllvm -aarch64-load-store-renaming=false -fPIC)
-# A browser takes no module in which this LLVM has unrolled the copying of a block's header.
-words_for_wasm=(--target=wasm32-unknown-unknown -mcpu=lime1 -fno-unroll-loops -mllvm -expand-div-rem-bits=64 -mllvm -expand-fp-convert-bits=64)
+words_for_wasm=(--target=wasm32-unknown-unknown -mcpu=lime1 -mllvm -expand-div-rem-bits=64 -mllvm -expand-fp-convert-bits=64)

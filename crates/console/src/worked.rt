@@ -9,7 +9,7 @@ ghost use Rattle.rules.specs.Told.{bounds_told};
 use crate::input::read;
 use crate::print;
 use preempt::map::fill_map;
-use rules::{BoundsFound, Refusal};
+use rules::{BoundsFound, Refusal, Verdict};
 use stack::call::find_bounds;
 use std::io;
 use std::io::Read;
@@ -49,7 +49,7 @@ pub fn work_out<R: Read>(
     let length = read(input, space)?;
     let bounds = own_bounds(&space[..length], rows, ids);
     if let Err(refusal) = bounds {
-        print::refusal(out, refusal)?;
+        print::refusal(out, Verdict::from(refusal))?;
     }
     Ok(Worked { length, bounds })
 }

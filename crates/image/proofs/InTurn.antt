@@ -1,19 +1,21 @@
 -- The count of records met in turn, one record further: the record of an image is that of the list of its records.
 use Prim.Native.Nat.{ℕ, zero, suc, ◌+◌, ◌-◌, ◌*◌, ◌≤◌, ◌<◌, ◌^◌}
 use mathlib.Core.List.{List, [], ◌∷◌}
-use mathlib.Core.Bool.{cond}
+use mathlib.Core.Bool.{cond, ◌&&◌}
 use mathlib.Core.Path.{◌≡◌, refl, ap, sym, ◌∙◌}
 use native.Mathlib.Numerals.{add-one}
 use native.Mathlib.Omega.{arith}
 use borrow.Author.Tests.{lt-ltb, le-ltb}
-use lib.ListN.{length, get_or, drop, drop_of_length-le}
+use lib.Dec.{ltb}
+use lib.ListN.{length, get_or, take, drop, drop_of_length-le}
+use lib.Seq.{take-length}
 use Rattle.std.proofs.lemmas.List.{drop_more}
 use Rattle.std.proofs.Common.{nat_eq}
 use Rattle.std.specs.Cmp.Lexicographic.{pointwise}
 use Rattle.rules.specs.Numbers.{up_to}
 use Rattle.rules.specs.Blocks.{record_at, record_count, records, block_count}
 use Rattle.rules.specs.Patches.{same}
-use Rattle.rules.proofs.Numbers.{length-up_to, get_or-up_to}
+use Rattle.rules.proofs.Numbers.{either, length-up_to, get_or-up_to}
 use Rattle.image.specs.InTurn.{records_left, past, met_among}
 
 -- a usize holds the number of records of an image whose length it holds
@@ -30,6 +32,17 @@ module _ (image fields : List ℕ) (k : ℕ) where
   pub past_inside : k < record_count image → past (records image) fields k ≡ cond (same (record_at image k) fields) (k + 1) k
   unfolding past
   past_inside h = rw (length-up_to (record_at image) (record_count image), lt-ltb k (record_count image) h, get_or-up_to (record_at image) (record_count image) k [] h)
+
+-- the number counts up by at most one
+pub past_le : (rs : List (List ℕ)) (r : List ℕ) (k : ℕ) → past rs r k ≤ k + 1
+unfolding past
+past_le rs r k = either (ltb k (length rs) && same (get_or rs k []) r) (λ t. rw t (omega arith)) (λ t. rw t (omega arith))
+
+-- so at most as many are met as were passed
+pub met_le : (rs ps : List (List ℕ)) (n : ℕ) → met_among rs ps n ≤ n
+unfolding met_among
+met_le rs ps zero = omega arith
+met_le rs ps (suc n) = omega (arith, past_le ps (get_or rs n []) (met_among rs ps n), met_le rs ps n)
 
 -- how many records are met where so many were, and these are left
 abbrev pub met_from : List (List ℕ) → List (List ℕ) → ℕ → ℕ
@@ -73,3 +86,7 @@ equal_same [] [] = refl
 equal_same [] (b ∷ s) = refl
 equal_same (a ∷ r) [] = refl
 equal_same (a ∷ r) (b ∷ s) = rw (equal_same r s)
+
+-- and so where all that each has is taken
+pub whole_same : (r s : List ℕ) (m n : ℕ) → m ≡ length r → n ≡ length s → pointwise nat_eq (take m r) (take n s) ≡ same r s
+whole_same r s m n all whole = rw (all, whole, take-length r, take-length s) (equal_same r s)

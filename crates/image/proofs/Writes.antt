@@ -5,7 +5,7 @@ use mathlib.Core.Path.{◌≡◌, refl, sym, ap, ◌∙◌}
 use native.Mathlib.Omega.{arith}
 use borrow.Rule.Slice.PartMut.{put_mid}
 use lib.ListN.{length, get_or, set, take, drop, replicate, length-append, length-drop, length-replicate, drop_of_length-le}
-use lib.Seq.{paste-suc, drop-length, get_or-take, take_at, drop_at, drop-drop}
+use lib.Seq.{sets, sets-eq, paste-suc, drop-length, get_or-take, take_at, drop_at, drop-drop}
 use Rattle.rules.specs.declared.Form.{Form}
 use Rattle.rules.specs.declared.Form.TheVariants.{Table, Patch}
 use Rattle.rules.specs.Numbers.{up_to}
@@ -46,6 +46,19 @@ put-over done new l a k e f =
       append_assoc done new (drop (length done + k) l),
     )
 
+-- values stored one after another behind the values that are written already
+pub stored_over : (done new l : List ℕ) (a : ℕ) → length done ≡ a → a + length new ≤ length l → sets (over done l) a new ≡ over (done ++ new) l
+stored_over done new l a e h =
+    let long : length (over done l) ≡ length l = simp (length-append, length-drop) (omega arith) in
+    sets-eq new (over done l) a (omega arith)
+    ∙ rw (
+      take_at done (drop (length done) l) a e,
+      ← drop-drop (length new) a (over done l),
+      drop_at done (drop (length done) l) a e,
+      drop-drop (length new) (length done) l,
+      length-append done new,
+    )
+
 -- a mark is two bytes long
 length-mark : (form : Form) → length (mark form) ≡ 2
 length-mark Table = refl
@@ -55,10 +68,15 @@ length-mark Patch = refl
 length_header : (form : Form) (total b count : ℕ) → length (header_of form total b count) ≡ 8
 length_header form total b count = rw (length-append, length-mark)
 
+-- the header's six bytes behind the mark
+pub header_stored : (form : Form) (total b count : ℕ) (l : List ℕ) → 8 ≤ length l
+    → sets (over (mark form) l) 2 (b ∷ total ∷ count ∷ 0 ∷ 0 ∷ 0 ∷ []) ≡ over (header_of form total b count) l
+header_stored form total b count l h = stored_over (mark form) (b ∷ total ∷ count ∷ 0 ∷ 0 ∷ 0 ∷ []) l 2 (length-mark form) h
+
 -- a block with this header and the records of these bytes
 module _ (header flat : List ℕ) (eight : length header ≡ 8) (few : length flat ≤ 480) where
   -- its body is 510 bytes long
-  length_body : length (body_behind header flat) ≡ 510
+  pub length_body : length (body_behind header flat) ≡ 510
   length_body = rw (length-append header (flat ++ replicate (502 - length flat) 0), length-append, length-replicate) (omega arith)
 
   -- where its records end
@@ -66,14 +84,13 @@ module _ (header flat : List ℕ) (eight : length header ≡ 8) (few : length fl
   end = 8 + length flat
 
   -- header, records and zeros, written one after another, are its body
-  pub body_written : (block headed copied zeros : List ℕ) → length block ≡ 512 → headed ≡ header → copied ≡ flat
-      → zeros ≡ replicate (length (take (510 - end) (drop end (put_mid 8 (end - 8) (headed ++ drop 8 block) copied)))) 0
-      → put_mid end (510 - end) (put_mid 8 (end - 8) (headed ++ drop 8 block) copied) zeros ≡ over (body_behind header flat) block
-  body_written block headed copied zeros long head copy zero =
+  pub body_written : (block headed copied zeros : List ℕ) → length block ≡ 512 → headed ≡ over header block → copied ≡ flat
+      → zeros ≡ replicate (length (take (510 - end) (drop end (put_mid 8 (end - 8) headed copied)))) 0
+      → put_mid end (510 - end) (put_mid 8 (end - 8) headed copied) zeros ≡ over (body_behind header flat) block
+  body_written block headed copied zeros long start copy zero =
       let all : end - 8 ≡ length flat = omega arith in
       let rest : 510 - end ≡ 502 - length flat = omega arith in
-      let start : headed ++ drop 8 block ≡ over header block = rw (head, eight) in
-      let first : put_mid 8 (end - 8) (headed ++ drop 8 block) copied ≡ over (header ++ flat) block = rw (start, copy) (put-over header flat block 8 (end - 8) eight (sym all)) in
+      let first : put_mid 8 (end - 8) headed copied ≡ over (header ++ flat) block = rw (start, copy) (put-over header flat block 8 (end - 8) eight (sym all)) in
       let held : length (over (header ++ flat) block) ≡ 512 = simp (length-append, length-drop) (omega arith) in
       let fill : zeros ≡ replicate (502 - length flat) 0 = zero ∙ rw (first, part_length (over (header ++ flat) block) end (510 - end) (omega arith), rest) in
       rw (first, fill)
@@ -94,6 +111,16 @@ check_written block bytes check long right small written =
     let high : check / 256 % 256 ≡ check / 256 = omega arith in
     let nothing : drop (length block - 510) (drop 510 block) ≡ [] = drop_of_length-le (drop 510 block) {i = length block - 510} (omega (arith, length-drop 510 block)) in
     rw (same, written, high, nothing)
+
+-- and each of the two by itself
+pub check_stored : (block bytes : List ℕ) (check : ℕ) → length block ≡ 512 → check ≡ check_of block → check < 65521 → bytes ≡ to_le_bytes w16 check
+    → set (set block 510 (get_or bytes 0 0)) 511 (get_or bytes 1 0) ≡ with_check (take 510 block)
+check_stored block bytes check long right small written =
+    let same : check_of (take 510 block) ≡ check = check_front (take 510 block) block (λ i l. get_or-take 510 block i 0 l) ∙ sym right in
+    let high : check / 256 % 256 ≡ check / 256 = omega arith in
+    rw (written, same, high)
+    (sets-eq (check % 256 ∷ check / 256 ∷ []) block 510 (omega arith)
+    ∙ rw (drop_of_length-le block {i = 512} (omega arith), append-nil))
 
 -- records that lie one after another are 32 bytes each
 cut_sized : (flat : List ℕ) → Records (cut flat)

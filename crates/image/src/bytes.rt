@@ -37,5 +37,5 @@ pub fn is_blank(s: &[u8], start: usize, count: usize) -> bool
 {
     let from = start.min(s.len());
     let to = start.saturating_add(count).min(s.len());
-    s[from..to].iter().all(|byte| *byte == 0)
+    (from..to).all(|at| s[at] == 0)
 }

@@ -54,7 +54,7 @@ pub fn is_past(image: &[u8], k: usize) -> bool
 }
 
 // Whether the bytes of an image's record are these.
-#[tactic(auto, using(crate::proofs::InTurn::equal_same))]
+#[tactic(auto, using(crate::proofs::InTurn::equal_same, crate::proofs::InTurn::whole_same))]
 fn is_record(image: &[u8], k: usize, fields: &[u8]) -> bool
     ensures { result ≡ same (record_at image.now k) fields.now }
 {

@@ -30,6 +30,23 @@ fn header(form: Form, total: u8, b: u8, count: u8) -> [u8; 8]
     [first, second, b, total, count, 0, 0, 0]
 }
 
+// Writes a header over the start of a block. Each byte goes by itself, since LLVM compiles a copy of all eight to code that no browser
+// accepts.
+fn write_front(header: &[u8; 8], block: &mut [u8])
+    requires { 8 ≤ length block.old }
+    ensures { block.new ≡ over header.now block.old }
+{
+    let [mark_0, mark_1, b, total, count, zero_5, zero_6, zero_7] = *header;
+    block[0] = mark_0;
+    block[1] = mark_1;
+    block[2] = b;
+    block[3] = total;
+    block[4] = count;
+    block[5] = zero_5;
+    block[6] = zero_6;
+    block[7] = zero_7;
+}
+
 // Writes header, records and zero fill of a block: all but the check.
 fn write_body(header: &[u8; 8], records: &[u8], block: &mut [u8])
     requires few_records { length records.now ≤ 480 }
@@ -37,18 +54,20 @@ fn write_body(header: &[u8; 8], records: &[u8], block: &mut [u8])
     ensures { block.new ≡ over (body_behind header.now records.now) block.old }
 {
     let end = 8 + records.len();
-    block[..8].copy_from_slice(header);
+    write_front(header, block);
     copy_bytes(records, &mut block[8..end]);
     block[end..510].fill(0);
 }
 
-// Writes the check that the first 510 bytes call for into the last two.
+// Writes the check that the first 510 bytes call for into the last two, each by itself as the bytes of a header.
 fn write_check(block: &mut [u8])
     requires { length block.old ≡ 512 }
     ensures { block.new ≡ with_check (take 510 block.old) }
 {
     let check = check_of(block) as u16;
-    block[510..].copy_from_slice(&check.to_le_bytes());
+    let [low, high] = check.to_le_bytes();
+    block[510] = low;
+    block[511] = high;
 }
 
 // Writes a whole block.

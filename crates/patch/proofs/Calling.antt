@@ -21,6 +21,7 @@ use Rattle.rules.specs.Patches.{outcome, touched_count, patched_map}
 use Rattle.rules.specs.Refusals.{accepted, fine, refusal, or_else, table_verdict, patch_verdict, absent_refusal, broken, outcome_refusal, short_refusal}
 use Rattle.rules.specs.Calls.{over, outcome_length, patch_call_verdict, patch_refusal, patch_accepted, PatchCall, offending, Offends}
 use Rattle.rules.proofs.Numbers.{either}
+use Rattle.rules.proofs.Refusals.{accepted_first, accepted_second}
 use Rattle.rules.proofs.Image.Written.{length-image_of, records-image_of}
 use Rattle.rules.proofs.Patch.Outcome.{outcome_sized, outcome-broken}
 use Rattle.patch.specs.declared.change.Change.{Change}
@@ -52,6 +53,20 @@ three_checks u v w x =
     (λ t. rw t (either (accepted v) (λ s. rw s) (λ s. rw (s, s))))
     (λ t. rw (t, t))
 
+-- each check that needs no outcome is passed where all are
+module _ (base patch : List ℕ) (h : accepted (both_verdict base patch) ≡ true) where
+  pub both_table : accepted (table_verdict base) ≡ true
+  both_table = accepted_first (table_verdict base) (or_else (patch_verdict patch) (absent_refusal (records base) (records patch))) h
+
+  later_two : accepted (or_else (patch_verdict patch) (absent_refusal (records base) (records patch))) ≡ true
+  later_two = accepted_second (table_verdict base) (or_else (patch_verdict patch) (absent_refusal (records base) (records patch))) h
+
+  pub both_patch : accepted (patch_verdict patch) ≡ true
+  both_patch = accepted_first (patch_verdict patch) (absent_refusal (records base) (records patch)) later_two
+
+  pub both_present : accepted (absent_refusal (records base) (records patch)) ≡ true
+  both_present = accepted_second (patch_verdict patch) (absent_refusal (records base) (records patch)) later_two
+
 module _ (base patch rows room new_rows : List ℕ) where
   -- the checks that need an outcome
   rest : Verdict
@@ -70,6 +85,12 @@ module _ (base patch rows room new_rows : List ℕ) where
   pub call_broken : accepted (both_verdict base patch) ≡ true → broken (outcome (records base) (records patch)) ≡ true
       → patch_call_verdict base patch rows room new_rows ≡ refusal 10 0
   call_broken h b = call_verdict ∙ rw (h, b)
+
+  -- nor is its image
+  pub call_image_refused : accepted (both_verdict base patch) ≡ true → accepted (table_verdict (image_of Table (outcome (records base) (records patch)))) ≡ false
+      → patch_call_verdict base patch rows room new_rows ≡ refusal 10 0
+  call_image_refused h r =
+      call_broken h (outcome-broken base patch (both_table base patch h) (both_patch base patch h) ∙ ap not r)
 
   -- a map or room is too short
   pub call_short : accepted (both_verdict base patch) ≡ true → broken (outcome (records base) (records patch)) ≡ false
@@ -135,7 +156,7 @@ module _ (change : Change) where
     pub change_broken : accepted (table_verdict (image_of Table rs)) ≡ false
         → PatchCall base patch rows room new_rows (patch_refusal (refusal 10 0)) room new_rows
     change_broken r =
-        patch_refused base patch rows room new_rows (refusal 10 0) (call_broken base patch rows room new_rows both_fine (broken_as ∙ ap not r)) refl
+        patch_refused base patch rows room new_rows (refusal 10 0) (call_image_refused base patch rows room new_rows both_fine r) refl
 
     -- the image is one
     module _ (right : accepted (table_verdict (image_of Table rs)) ≡ true) where

@@ -26,7 +26,7 @@ use Rattle.patch.specs.declared.related.Related.{Related}
 use Rattle.patch.specs.Touched.{Marks, has_id, place_with, beside_in}
 
 -- of numbers that rise no two are equal
-rising_apart : (ids : List ℕ) (count : ℕ) → Rising ids count → (i j : ℕ) → i < count → j < count → get_or ids i 0 ≡ get_or ids j 0 → i ≡ j
+pub rising_apart : (ids : List ℕ) (count : ℕ) → Rising ids count → (i j : ℕ) → i < count → j < count → get_or ids i 0 ≡ get_or ids j 0 → i ≡ j
 rising_apart ids count rising i j l m same =
     either (ltb i j)
     (λ t. absurd (omega (arith, rising i j (ltb-true i j t) m)))

@@ -64,7 +64,8 @@ fn old_places(base: &Table, related: &Related) -> [u32; 64]
 fn base_row(rows: &[u64], place: u32) -> u64
     ensures { result ≡ get_or rows.now place 0 }
 {
-    rows.get(place as usize).copied().unwrap_or(0)
+    let place = place as usize;
+    if place < rows.len() { rows[place] } else { 0 }
 }
 
 // Whether a row has a cell set. It has none beyond 64 cells.

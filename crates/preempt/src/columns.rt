@@ -5,7 +5,7 @@ ghost use Rattle.preempt.specs.Tasks.{no_columns, with_task, task_read, period_r
 use rules::Task;
 
 // A column of 64 numbers for each field, and one for the periods of the tasks' transactions; 0 beyond the tasks.
-#[derive(Drop)]
+#[derive(Clone, Copy)]
 pub struct Columns {
     pub ids: [u32; 64],
     pub transactions: [u32; 64],

@@ -2,7 +2,7 @@
 use Prim.Native.Nat.{ℕ, ◌<◌}
 use mathlib.Core.List.{List}
 use mathlib.Core.Bool.{Bool, true, false, not, or-true}
-use mathlib.Core.Path.{◌≡◌, refl}
+use mathlib.Core.Path.{◌≡◌, refl, sym}
 use borrow.Author.Tests.{lt-ltb}
 use Rattle.std.specs.Prelude.{Result, IsErrAnd}
 use Rattle.std.proofs.lemmas.Result.{err_from_is_err_and}
@@ -26,11 +26,15 @@ refusal_handed_on r e is same =
     rw (p.1, p.2) same
 
 -- a refused table: its refusal
-pub table_refused : (image : List ℕ) (low high : ℕ) (e : Refusal) → verdict_of e ≡ table_verdict image → reason_refusal (verdict_of e) ≡ reason_answer image low high
+pub reason_refused : (image : List ℕ) (low high : ℕ) → accepted (table_verdict image) ≡ false → reason_answer image low high ≡ reason_refusal (table_verdict image)
 unfolding reason_verdict
+reason_refused image low high h = rw (h, h)
+
+-- as it is handed on
+pub table_refused : (image : List ℕ) (low high : ℕ) (e : Refusal) → verdict_of e ≡ table_verdict image → reason_refusal (verdict_of e) ≡ reason_answer image low high
 table_refused image low high e same =
     let refused : accepted (table_verdict image) ≡ false = rw (← same) (is_refused e) in
-    rw (refused, refused, same)
+    rw same (sym (reason_refused image low high refused))
 
 -- an id that is told as not listed is not
 unlisted : (e : Refusal) (here : Bool) → verdict_of e ≡ unlisted_refusal (not here) → (here ≡ false) × (verdict_of e ≡ refusal 15 0)

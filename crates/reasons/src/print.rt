@@ -8,6 +8,7 @@ use console::print::refusal;
 use preempt::tasks::task_place;
 use reason::places::reason_at;
 use reason::told::word;
+use rules::Verdict;
 use std::io;
 use table::accepted::Table;
 use table::judge_table;
@@ -50,6 +51,6 @@ pub fn neighbours(out: &impl Print, image: &[u8], ids: &[u16]) -> io::Result<()>
     let mut before = [0u64; 64];
     match judge_table(image, &mut before) {
         Ok(table) => pair_lines(out, &table, &before, ids),
-        Err(refused) => refusal(out, refused),
+        Err(refused) => refusal(out, Verdict::from(refused)),
     }
 }

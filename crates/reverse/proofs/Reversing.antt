@@ -13,7 +13,7 @@ use Rattle.rules.specs.Numbers.{lowest}
 use Rattle.rules.specs.Blocks.{records, record_count, blocks_for, joined}
 use Rattle.rules.specs.Patches.{reversed}
 use Rattle.table.specs.declared.accepted.Patch.{Patch}
-use Rattle.rules.specs.Calls.{over, writable, written_room, reverse_of}
+use Rattle.rules.specs.Calls.{over, writable, written_length, written_room, reverse_of}
 use Rattle.rules.proofs.Numbers.{lowest_le}
 use Rattle.rules.proofs.Image.Frame.{Frame, frame_of, frame_accepted, records_fit}
 use Rattle.rules.proofs.Image.Parts.{Records, length-joined}
@@ -86,6 +86,8 @@ module _ (patch : Patch) where
           le-leb (512 * blocks_for (length rs)) (length room) (omega (arith, blocks_long)),
         )
 
-    -- which is written
-    pub reverse_image : (flat : List ℕ) → flat ≡ joined (reversed ps) → written_room Form·Patch flat room ≡ over (reverse_of image) room
-    reverse_image flat same = rw same (rw (reverse-writable, cut-joined (reversed ps) sized))
+    -- which is written, as long as the patch
+    pub reverse_image : (flat : List ℕ) → flat ≡ joined (reversed ps)
+        → (written_length Form·Patch flat room ≡ length image) × (written_room Form·Patch flat room ≡ over (reverse_of image) room)
+    reverse_image flat same =
+        rw same (rw (reverse-writable, count-joined (reversed ps) sized) blocks_long, rw (reverse-writable, cut-joined (reversed ps) sized))

@@ -6,10 +6,10 @@ ghost use Rattle.rules.specs.Told.{judged};
 use crate::print::task_lines;
 use console::print::refusal;
 use preempt::map::fill_map;
-use preempt::tasks::{Tasks, read_tasks};
-use rules::Refusal;
+use preempt::tasks::read_tasks;
+use rules::{Refusal, Verdict};
 use std::io;
-use table::table_verdict;
+use table::accepted::Table;
 use through::call::room_left;
 
 // Works out what each task has left over the table's own map, which is left in the rows.
@@ -21,22 +21,12 @@ fn work_out(image: &[u8], reserve: u32, rows: &mut [u64], room: &mut [i64]) -> R
     room_left(image, rows, reserve, room)
 }
 
-// The tasks of a table image, with what each has left in the room.
-fn tasks_with_room<'a>(
-    image: &'a [u8],
-    reserve: u32,
-    room: &mut [i64],
-) -> Result<Tasks<'a>, Refusal> {
-    let mut rows = [0u64; 64];
-    work_out(image, reserve, &mut rows, room)?;
-    Ok(read_tasks(&table_verdict(image)?))
-}
-
 // Prints a line for each task of a table image, or the refusal.
 pub fn report(out: &impl Print, image: &[u8], reserve: u32) -> io::Result<()> {
+    let mut rows = [0u64; 64];
     let mut room = [0i64; 64];
-    match tasks_with_room(image, reserve, &mut room) {
-        Ok(tasks) => task_lines(out, &tasks, &room),
-        Err(refused) => refusal(out, refused),
+    match work_out(image, reserve, &mut rows, &mut room) {
+        Ok(()) => task_lines(out, &read_tasks(&Table::of(image)), &room),
+        Err(refused) => refusal(out, Verdict::from(refused)),
     }
 }

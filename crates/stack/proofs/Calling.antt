@@ -75,6 +75,11 @@ module _ (image lent ids : List ℕ) where
   worked_by right answer later worked =
       record { refused = λ h. never (accepted (bound_verdict image lent ids)) right h; worked = λ h. worked }
 
+  -- which it is where the table is accepted and map and room are long enough
+  pub answered : accepted (table_verdict image) ≡ true → 64 ≤ length lent → 64 ≤ length ids → (answer : Bounds) (later : List ℕ)
+      → BoundsWorkedOut (records image) lent ids answer later → BoundCall image lent ids answer later
+  answered yes' map_long room_long = worked_by (none_refuses yes' map_long room_long)
+
 -- a chain has as many places as it is long, and those are few
 pub listed_long : (chain : ChainPlaces) → length chain.places ≡ 64 → length (listed chain) ≡ chain.length
 listed_long chain long = length-take-le chain.length chain.places (omega (arith, chain.room))

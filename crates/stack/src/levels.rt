@@ -31,7 +31,11 @@ fn sum_of(numbers: &[u32]) -> u32
     requires fits { sum numbers.now < 2 ^ 32 }
     ensures { result ≡ sum numbers.now }
 {
-    numbers.iter().sum()
+    let mut total: u32 = 0;
+    for number in numbers {
+        total += *number;
+    }
+    total
 }
 
 // For each priority in use the largest size, added up.

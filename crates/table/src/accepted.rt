@@ -5,7 +5,9 @@ ghost use Rattle.rules.specs.Blocks.{records};
 ghost use Rattle.rules.specs.Records.{transactions as Records·transactions, tasks as Records·tasks, pairs as Records·pairs};
 ghost use Rattle.rules.specs.Refusals.{accepted as Refusals·accepted, table_verdict, patch_verdict};
 
+use crate::listing::count_of;
 use image::records::record_at;
+use rules::Kind;
 
 // An accepted table image, with how many records of each kind it has.
 #[derive(Clone, Copy)]
@@ -30,6 +32,19 @@ pub struct Patch<'a> {
 }
 
 impl<'a> Table<'a> {
+    // The table of an image that is known to be accepted: its records are counted, and nothing is judged again.
+    pub fn of(image: &'a [u8]) -> Table<'a>
+        requires { Refusals·accepted (table_verdict image.now) ≡ true }
+        ensures { result.image.now ≡ image.now }
+    {
+        Table {
+            image,
+            transactions: count_of(image, Kind::Transaction),
+            tasks: count_of(image, Kind::Task),
+            pairs: count_of(image, Kind::Pair),
+        }
+    }
+
     // The record of the transaction at a place.
     pub fn transaction_record(&self, place: usize) -> &'a [u8]
         requires { place < self.now.transactions }

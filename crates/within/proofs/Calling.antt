@@ -42,12 +42,18 @@ use Rattle.within.specs.Counting.{Tallied, untallied}
 
 module _ (image lent ids : List ℕ) (limit : ℕ) where
   -- a verdict that refuses before the bounds are asked is the answer
-  refused_within : (v : Verdict) → bound_verdict image lent ids ≡ v → accepted v ≡ false → WithinCall image lent ids limit (with_opened (bound_refusal v) 0) ids
+  pub refused_within : (v : Verdict) → bound_verdict image lent ids ≡ v → accepted v ≡ false → WithinCall image lent ids limit (with_opened (bound_refusal v) 0) ids
   refused_within v e no' =
       record {
         refused = λ h. (ap (λ w. with_opened (bound_refusal w) 0) (sym e), refl);
         worked = λ h. never (accepted v) (ap accepted (sym e) ∙ h) no';
       }
+
+  -- and what was worked out is
+  pub worked_within : accepted (bound_verdict image lent ids) ≡ true → (answer : BoundsWithin) (later : List ℕ)
+      → WithinWorkedOut (records image) lent ids limit answer later → WithinCall image lent ids limit answer later
+  worked_within right answer later worked =
+      record { refused = λ h. never (accepted (bound_verdict image lent ids)) right h; worked = λ h. worked }
 
   pub within_by_table : (r : Result WithinFound Refusal) (e : Refusal) → IsErrAnd r (λ y. y ≡ e) → verdict_of e ≡ table_verdict image → WithinCall image lent ids limit (within_told r) ids
   within_by_table r e is told =
@@ -67,9 +73,8 @@ module _ (t : Table) (lent ids : List ℕ) (limit : ℕ) where
   -- what was worked out is the answer
   pub within_answered : 64 ≤ length lent → 64 ≤ length ids → (answer : BoundsWithin) (later : List ℕ)
       → WithinWorkedOut (records t.image.now) lent ids limit answer later → WithinCall t.image.now lent ids limit answer later
-  within_answered map_long ids_long answer later worked =
-      let right = none_refuses t.image.now lent ids t.accepted map_long ids_long in
-      record { refused = λ h. never (accepted (bound_verdict t.image.now lent ids)) right h; worked = λ h. worked }
+  within_answered map_long ids_long =
+      worked_within t.image.now lent ids limit (none_refuses t.image.now lent ids t.accepted map_long ids_long)
 
 -- what was counted and found over rows that are the relation of a table and a lent map
 module _ (t : Tasks) (rows lent : List ℕ) (same : cell rows ≡ related (records t.table.image.now) lent) (ids : List ℕ) (limit : ℕ) (tally : Tally)

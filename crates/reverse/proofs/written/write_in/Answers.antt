@@ -13,4 +13,4 @@ slice_bounds-write_image-end-2 c = sym (length-take-le _ _ (slice_bounds-write_i
 pub returns : goal.returns
 returns c =
     c.write_image.ensures.room_written
-    ∙ reverse_image c.args.patch.now c.args.room.now c.requires.in_bounds.1 _ c.write_reversed-bytes.ensures.bytes
+    ∙ (reverse_image c.args.patch.now c.args.room.now c.requires.in_bounds.1 _ c.write_reversed-bytes.ensures.bytes).1

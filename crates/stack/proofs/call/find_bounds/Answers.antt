@@ -8,7 +8,7 @@ use native.Mathlib.Omega.{arith}
 use Rattle.rules.specs.Refusals.{accepted, table_verdict}
 use Rattle.table.specs.declared.accepted.Table.{Table}
 use Rattle.stack.proofs.Readying.{few_tasks, rows_rising, rows_related, prepared_ready}
-use Rattle.stack.proofs.Calling.{by_table, by_short, none_refuses, worked_by}
+use Rattle.stack.proofs.Calling.{by_table, by_short, answered}
 use Rattle.stack.proofs.call.find_bounds.Goals as goal
 use Rattle.stack.proofs.call.find_bounds.Goals.{then-map-lt64-via-then-map-lt64, then-map-lt64-via-else-map-lt64+then-ids-lt64}
 
@@ -43,7 +43,6 @@ returns c =
     let image_is : tasks.result.table.image.now ≡ c.args.image.now = ap (λ (t : Table). t.image.now) tasks.ensures.of_table ∙ c.in_ok-table.ensures.of_image in
     let same = rows_related tasks.result lent c.prepare-prepared.result.rows c.prepare-prepared.ensures.related in
     let right : accepted (table_verdict c.args.image.now) ≡ true = rw (← c.in_ok-table.ensures.told) in
-    worked_by c.args.image.now lent c.args.ids.now
-    (none_refuses c.args.image.now lent c.args.ids.now right (omega (arith, c.if-map-lt64.false)) (omega (arith, c.if-ids-lt64.false)))
+    answered c.args.image.now lent c.args.ids.now right (omega (arith, c.if-map-lt64.false)) (omega (arith, c.if-ids-lt64.false))
     _ _
     (rw image_is at (c.bounds_over.ensures lent same))
